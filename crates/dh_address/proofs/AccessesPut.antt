@@ -22,7 +22,7 @@ use Rattle.dh_rows.proofs.Growing.{grows_self, grows_on, value_later, maybe_late
 use Rattle.dh_address.specs.declared.literals.LiteralPlace.{LiteralPlace}
 use Rattle.dh_address.specs.declared.operands.Operand.{Operand}
 use Rattle.dh_address.specs.LiteralPlaces.{literal_places}
-use Rattle.dh_address.specs.Pieces.{Around, new_number, new_or_none, known_kind, all_taken, values_of, aimed, is_banked, aim_width, select_width, waited, IsAimed}
+use Rattle.dh_address.specs.Pieces.{RenumberedBlock, new_number, new_or_none, known_kind, indices_and_offsets, operand_values, aimed_reach, is_banked, aim_width, select_width, waited, IsAimedReach}
 use Rattle.dh_address.specs.WaysMade.{operand_of}
 use Rattle.dh_address.proofs.TestedRanges.{IsThere, all_there, begun_later}
 use Rattle.dh_address.proofs.AimedRows.{HasSelect, PlaceFits, index_aim_put, waited_put, IsInputOrNone}
@@ -39,7 +39,7 @@ HasMany table r (Some row) is = Unit {0}
 
 -- What is put down.
 
-module _ (x : Readings) (clock : ℕ) (a : Around) where
+module _ (x : Readings) (clock : ℕ) (a : RenumberedBlock) where
   -- the new value of an old one stands at a clock, and is of its kind
   pub record IsInputOf (own v : ℕ) : Type 0 where
     pub earlier : IsEarlierValue x clock own (new_number a v)
@@ -76,7 +76,7 @@ module _ (x : Readings) (clock : ℕ) (a : Around) where
   operands_there os [] k h = tt
   operands_there os (v ∷ vs) k h = (operand_there os v k.0 h.0, operands_there os vs k.1 h.1)
 
-  there_inputs : (os : List Operation) (is : List Operand) → AllByRecursion (IsThere x clock os) is → AllByRecursion (λ i. IsInput x clock os i) (values_of is)
+  there_inputs : (os : List Operation) (is : List Operand) → AllByRecursion (IsThere x clock os) is → AllByRecursion (λ i. IsInput x clock os i) (operand_values is)
   there_inputs os [] h = tt
   there_inputs os (i ∷ is) h = (λ o. (h.0.stands o).earlier, there_inputs os is h.1)
 
@@ -99,7 +99,7 @@ module _ (x : Readings) (clock : ℕ) (a : Around) where
     pub taken : List ℕ
     pub row : ℕ
     pub select : Option ℕ
-    pub reach : t ≡ aimed r taken row select
+    pub reach : t ≡ aimed_reach r taken row select
     pub taken_there : AllByRecursion (IsNumberThere last) taken
     pub row_there : IsNumberThere last row
     pub select_there : AllByRecursion (IsCountThere last) (one_or_none select)
@@ -146,7 +146,7 @@ module _ (x : Readings) (clock : ℕ) (a : Around) where
 
   -- indices and offsets at their new numbers
   taken_there : (old os : List Operation) → OperationsGrow old os → (r : Reach) → AllByRecursion IsNumberKnown (r.indices ++ offsets_taken r.steps) → AllByRecursion (IsInputOf (length old)) (reach_takes r)
-      → AllByRecursion (IsNumberThere os) (all_taken a r)
+      → AllByRecursion (IsNumberThere os) (indices_and_offsets a r)
   taken_there old os g r k h =
       let P = IsInputOf (length old) in
       let behind = all_right P r.indices _ h in
@@ -167,7 +167,7 @@ module _ (x : Readings) (clock : ℕ) (a : Around) where
         less : (n m b : ℕ) → n < m → m < b → n < b
         less n m b l k = omega (arith, l, k)
 
-    pub aims_put : (row : Option ℕ) → r.row ≡ row → IsPicksGiven r row → (is : List Operand) (old last : List Operation) (t : Reach) → IsAimed a r row is old last t → x.first ≤ length old
+    pub aims_put : (row : Option ℕ) → r.row ≡ row → IsPicksGiven r row → (is : List Operand) (old last : List Operation) (t : Reach) → IsAimedReach a r row is old last t → x.first ≤ length old
         → HasMany a.table r row is → AllByRecursion (IsThere x clock old) is → AllByRecursion (IsInputOf (length old)) (reach_takes r) → PutsAccess r old last t
     aims_put None e picks is old last t h begun long there taken =
         let P = IsInputOf (length old) in
@@ -180,16 +180,16 @@ module _ (x : Readings) (clock : ℕ) (a : Around) where
         let wide = width_suffices a.table r.memory (subst (λ (tb : _). IsProgramTable tb) (sym tables) formed) in
         let few = select_suffices a.table r.memory (subst (λ (tb : _). IsProgramTable tb) (sym tables) formed) in
         let aim = index_aim_put x clock (literal_places (dims_at a.table r.memory) is 0 0) (aim_width (dims_at a.table r.memory)) (select_width (dims_at a.table r.memory)) (dims_at a.table r.memory)
-        (values_of is) (is_banked r) mid last h.row h.select h.aim wide few.sized (place_fits is _ refl long) (begun_later x old mid g begun) (there_inputs mid is (all_there x clock old mid g is there))
+        (operand_values is) (is_banked r) mid last h.row h.select h.aim wide few.sized (place_fits is _ refl long) (begun_later x old mid g begun) (there_inputs mid is (all_there x clock old mid g is there))
         in
         record {
           adds = adds_on x clock old mid last w.adds aim.adds;
-          taken = all_taken a r ++ one_or_none (waited old (new_or_none a r.select)).sum;
+          taken = indices_and_offsets a r ++ one_or_none (waited old (new_or_none a r.select)).sum;
           row = h.row;
           select = h.select;
           reach = h.reach;
           taken_there =
-              all_join (IsNumberThere last) (all_taken a r) (one_or_none (waited old (new_or_none a r.select)).sum)
+              all_join (IsNumberThere last) (indices_and_offsets a r) (one_or_none (waited old (new_or_none a r.select)).sum)
               (taken_there old last (grows_on old mid last g aim.adds.grows) r suits.indices taken)
               (maybe_number last 1 (waited old (new_or_none a r.select)).sum (omega arith, omega arith)
               (maybe_later x clock mid last (kind.Unsigned 1) (waited old (new_or_none a r.select)).sum aim.adds.grows w.stands));
@@ -207,7 +207,7 @@ module _ (x : Readings) (clock : ℕ) (a : Around) where
         subst (λ (os : List Operation). PutsAccess r old os t) (sym h.0)
         (record {
           adds = adds_self x clock old;
-          taken = all_taken a r;
+          taken = indices_and_offsets a r;
           row = new_number a row;
           select = new_or_none a r.select;
           reach = h.1;

@@ -17,7 +17,7 @@ use Rattle.dh_rows.specs.MadeOperations.{Made, constant_made, or_zero}
 use Rattle.dh_rows.proofs.Growing.{grows_self, grows_on, plain_grows, pushed_grows, obeys_before, pushed_word, value_later, maybe_later, adds_self, adds_on, pushed_adds, pushed_value}
 use Rattle.dh_rows.proofs.CountWords.{number_word}
 use Rattle.dh_address.specs.declared.literals.LiteralPlace.{LiteralPlace}
-use Rattle.dh_address.specs.Pieces.{IsAim, IsAimBut, narrowed, waited}
+use Rattle.dh_address.specs.Pieces.{IsAim, IsAimBut, narrowed_bank, waited}
 use Rattle.dh_address.proofs.TestedRanges.{PutsMaybe, begun_later}
 
 -- a select is there if the bank is wanted
@@ -53,12 +53,12 @@ module _ (x : Readings) (clock : ℕ) where
   or_zero_put old width (Some value) sized begun h = record { adds = adds_self x clock old; stands = h }
 
   -- cut to the width of selects
-  narrowed_put : (old : List Operation) (bank : Made) (k : Kind) (narrow : ℕ) → IsWidth narrow → x.first ≤ length old → PutsMade old bank k → PutsMade old (narrowed narrow bank) (kind.Unsigned narrow)
+  narrowed_put : (old : List Operation) (bank : Made) (k : Kind) (narrow : ℕ) → IsWidth narrow → x.first ≤ length old → PutsMade old bank k → PutsMade old (narrowed_bank narrow bank) (kind.Unsigned narrow)
   narrowed_put old bank k narrow sized begun h =
       let behind = begun_later x old bank.operations h.adds.grows begun in
       let takes : (Obeys x bank.operations → AllByRecursion (λ v. IsEarlierValue x clock (length bank.operations) v) (bank.value ∷ [])) = λ o. ((h.stands o).earlier, tt) in
       record {
-        adds = adds_on x clock old bank.operations (narrowed narrow bank).operations h.adds
+        adds = adds_on x clock old bank.operations (narrowed_bank narrow bank).operations h.adds
             (pushed_adds x clock bank.operations (Convert bank.value (kind.Unsigned narrow)) refl behind takes (λ o. sized));
         stands = pushed_value x clock bank.operations (Convert bank.value (kind.Unsigned narrow)) refl behind takes (λ o. sized) (kind.Unsigned narrow) (λ o. refl);
       }
@@ -104,7 +104,7 @@ module _ (x : Readings) (clock : ℕ) where
       (maybe_later x clock h.spread row_made.operations (kind.Unsigned width) h.values.bank r.adds.grows (m.bank_stands x clock begun inputs)) in
       let bank = or_zero row_made.operations width h.values.bank in
       let c = narrowed_put row_made.operations bank (kind.Unsigned width) narrow few at_row b in
-      let aim = aim_put h.spread (kind.Unsigned width) (kind.Unsigned narrow) banked row_made (narrowed narrow bank) new row select r c h.aim in
+      let aim = aim_put h.spread (kind.Unsigned width) (kind.Unsigned narrow) banked row_made (narrowed_bank narrow bank) new row select r c h.aim in
       record {
         adds = adds_on x clock old h.spread new (m.adds x clock begun inputs) aim.adds;
         row_stands = aim.row_stands;
@@ -150,8 +150,8 @@ module _ (x : Readings) (width narrow : ℕ) where
   constant_shows old w n begun obeys = pushed_word x old (Constant (with_bits (kind.Unsigned w) n)) refl begun obeys
 
   -- a bank that fits is the same as a select
-  narrowed_shows : (bank : Made) (n : ℕ) → x.first ≤ length bank.operations → n < 2 ^ narrow → Obeys x (narrowed narrow bank).operations → ShowsUnsigned x width bank.value n
-      → ShowsUnsigned x narrow (narrowed narrow bank).value n
+  narrowed_shows : (bank : Made) (n : ℕ) → x.first ≤ length bank.operations → n < 2 ^ narrow → Obeys x (narrowed_bank narrow bank).operations → ShowsUnsigned x width bank.value n
+      → ShowsUnsigned x narrow (narrowed_bank narrow bank).value n
   narrowed_shows bank n begun fits obeys h =
       pushed_word x bank.operations (Convert bank.value (kind.Unsigned narrow)) refl begun obeys
       ∙ (ap (λ (w : Word). word_of (kind.Unsigned narrow) (value_of w)) h ∙ number_word narrow n fits)
@@ -201,15 +201,15 @@ module _ (x : Readings) (width narrow : ℕ) where
       let bank = or_zero row_made.operations width h.values.bank in
       let cut_grows = pushed_grows bank.operations None (Convert bank.value (kind.Unsigned narrow)) in
       let to_bank = or_zero_grows row_made.operations h.values.bank in
-      let bank_grows = grows_on row_made.operations bank.operations (narrowed narrow bank).operations to_bank cut_grows in
+      let bank_grows = grows_on row_made.operations bank.operations (narrowed_bank narrow bank).operations to_bank cut_grows in
       let at_spread = begun_later x old h.spread (plain_grows old h.spread h.grows) begun in
       let spread_obeys : Obeys x h.spread =
       obeys_before x h.spread row_made.operations row_grows (obeys_before x row_made.operations new
-      (aim_grows banked row_made (narrowed narrow bank) new row select bank_grows h.aim) obeys)
+      (aim_grows banked row_made (narrowed_bank narrow bank) new row select bank_grows h.aim) obeys)
       in
       let at_row = begun_later x h.spread row_made.operations row_grows at_spread in
-      aim_shows banked row_made (narrowed narrow bank) new row select (row_of dims numbers) (bank_of dims numbers) bank_grows h.aim obeys
+      aim_shows banked row_made (narrowed_bank narrow bank) new row select (row_of dims numbers) (bank_of dims numbers) bank_grows h.aim obeys
       (λ o. or_zero_shows h.spread h.values.row (row_of dims numbers) at_spread o (m.row_shown x numbers begun spread_obeys within))
       (λ b o. narrowed_shows bank (bank_of dims numbers) (begun_later x row_made.operations bank.operations to_bank at_row) fits o
-      (or_zero_shows row_made.operations h.values.bank (bank_of dims numbers) at_row (obeys_before x bank.operations (narrowed narrow bank).operations cut_grows o)
+      (or_zero_shows row_made.operations h.values.bank (bank_of dims numbers) at_row (obeys_before x bank.operations (narrowed_bank narrow bank).operations cut_grows o)
       (m.bank_shown x numbers begun spread_obeys within b)))

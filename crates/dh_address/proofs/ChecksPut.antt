@@ -17,7 +17,7 @@ use Rattle.dh_plan.specs.PlainPlans.{PlainPlan, first_in, operations_in}
 use Rattle.dh_plan.specs.PlanKinds.{IsFormedBlock, form_kind}
 use Rattle.dh_rows.specs.Readings.{is_plain}
 use Rattle.dh_rows.specs.MadeOperations.{IsMade, pushed}
-use Rattle.dh_address.specs.Pieces.{Around, IsFormMade, new_number, new_or_none}
+use Rattle.dh_address.specs.Pieces.{RenumberedBlock, IsFormMade, new_number, new_or_none}
 use Rattle.dh_address.specs.declared.operands.Ranged.{Ranged}
 use Rattle.dh_address.specs.WaysMade.{reach_passed}
 use Rattle.dh_address.specs.Images.{IsImage, ArePieces, and_known, around_block, operations_until}
@@ -28,7 +28,7 @@ use Rattle.dh_address.proofs.LiteralsFound.{IsLiteral, AreAllLiteral, literal_wa
 
 -- what is to be in range of an access, as it was put down, is not of literals alone
 pub record IsUnliteral (table : List MemEntry) (views : List ViewMap) (os : List Operation) (first : ℕ) (r : Reach) : Type 0 where
-  pub around : Around
+  pub around : RenumberedBlock
   pub table_is : around.table ≡ table
   pub views_is : around.views ≡ views
   pub operations_are : around.operations ≡ os
@@ -75,7 +75,7 @@ module _ (table : List MemEntry) (views : List ViewMap) (os : List Operation) (f
   one_more f old new g h n made so = record { more = record { guard = g; form = h } ∷ []; appended = made.0; each = (so, tt) }
 
 -- of values that are all literals none is no literal
-module _ (a : Around) where
+module _ (a : RenumberedBlock) where
   refute_each : (rs all : List Ranged) → (AreAllLiteral all → AreAllLiteral rs) → AllByRecursion (λ r. range_literal r ≡ None → AreAllLiteral all → ⊥) rs
   refute_each [] all to = tt
   refute_each (r ∷ rs) all to = ((λ e h. refuted e (to h).0), refute_each rs all (λ h. (to h).1))
@@ -144,7 +144,7 @@ module _ (a : Around) where
       later : {fault : ℕ} → HasReason a.table a.views a.operations a.first os fault → HasReason a.table a.views a.operations a.first (o ∷ os) fault
       later r = record { place = suc r.place; operation = r.operation; there = r.there; reason = r.reason }
 
-pieces_checks : (registers : List Kind) (os : List Operation) (a : Around) (old new : List Operation) (numbers : List ℕ) → ArePieces registers a os old new numbers
+pieces_checks : (registers : List Kind) (os : List Operation) (a : RenumberedBlock) (old new : List Operation) (numbers : List ℕ) → ArePieces registers a os old new numbers
     → GrowsBy (ChecksOf a.table a.views a.operations a.first os) old new
 pieces_checks registers [] a old new numbers h =
     subst (λ (l : List Operation). GrowsBy (ChecksOf a.table a.views a.operations a.first []) old l) (sym h.0) (by_self (ChecksOf a.table a.views a.operations a.first []) (plain_of a.table a.views a.operations a.first []) old)

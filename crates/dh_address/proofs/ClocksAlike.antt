@@ -26,7 +26,7 @@ use Rattle.dh_rows.specs.Readings.{Readings, Obeys, IsEarlierValue, OperationsGr
 use Rattle.dh_rows.specs.MadeOperations.{pushed, IsMade}
 use Rattle.dh_rows.proofs.Growing.{grows_self, grows_on, grown_length, kept_there, pushed_grows, obeys_before, maybe_later, adds_on, pushed_adds, pushed_value}
 use Rattle.dh_address.proofs.WaySizes.{HasMaps}
-use Rattle.dh_address.specs.Pieces.{Around, aimed, all_taken, is_probe, is_probe_form, new_number, new_or_none, check_made, AreChecked, false_behind_all, false_word, new_takes, waited, is_banked, IsProbeValue, IsAimed, IsAccessMade, IsReadMade, IsWriteMade, IsProbed, IsFormMade}
+use Rattle.dh_address.specs.Pieces.{RenumberedBlock, aimed_reach, indices_and_offsets, is_probe, is_probe_form, new_number, new_or_none, check_made, AreChecked, false_behind_all, false_word, new_takes, waited, is_banked, IsProbeValue, IsAimedReach, IsAccessMade, IsReadMade, IsWriteMade, IsProbed, IsFormMade}
 use Rattle.dh_address.specs.declared.operands.Operand.{Operand}
 use Rattle.dh_address.specs.declared.operands.Ranged.{Ranged}
 use Rattle.dh_address.specs.LiteralPlaces.{literal_places}
@@ -67,7 +67,7 @@ both_ways : (m n : ℕ) → m ≤ n → n ≤ m → m ≡ n
 both_ways m n l k = omega (arith, l, k)
 
 -- new numbers of values
-new_list : (a : Around) (g : Option ℕ) (vs : List ℕ) → one_or_none (new_or_none a g) ++ map (new_number a) vs ≡ map (new_number a) (one_or_none g ++ vs)
+new_list : (a : RenumberedBlock) (g : Option ℕ) (vs : List ℕ) → one_or_none (new_or_none a g) ++ map (new_number a) vs ≡ map (new_number a) (one_or_none g ++ vs)
 new_list a None vs = refl
 new_list a (Some g) vs = refl
 
@@ -139,7 +139,7 @@ module _ (p : PlainPlan) (maps : HasMaps p) (tables : IsProgramTable p.table) (b
 
   module _ (ns : List ℕ) (ks : List Kind) (i : ℕ) (o : Operation) (old mid : List Operation) (n : ℕ) (at : IsPieceAt p maps tables bs block front begins formed ns ks i o old mid n)
       (takes : AllByRecursion (λ v. SameClock v (renumbered old_first ns v)) (operation_takes o)) where
-    abbrev a : Around
+    abbrev a : RenumberedBlock
     a = around p block ns ks
 
     abbrev Timed : ℕ → Type 0
@@ -274,31 +274,31 @@ module _ (p : PlainPlan) (maps : HasMaps p) (tables : IsProgramTable p.table) (b
           (all_join (λ v. old_clock v ≤ bound) (one_or_none r.select) (one_or_none r.row) k l))
 
       -- of indices and offsets
-      all_back : (bound : ℕ) → AllByRecursion (λ m. x.clock m ≤ bound) (all_taken a r) → AllByRecursion (λ v. old_clock v ≤ bound) (one_or_none r.select) → AllByRecursion (λ v. old_clock v ≤ bound) (one_or_none r.row)
+      all_back : (bound : ℕ) → AllByRecursion (λ m. x.clock m ≤ bound) (indices_and_offsets a r) → AllByRecursion (λ v. old_clock v ≤ bound) (one_or_none r.select) → AllByRecursion (λ v. old_clock v ≤ bound) (one_or_none r.row)
           → AllByRecursion (λ v. old_clock v ≤ bound) (reach_takes r)
       all_back bound h k l =
           let P = λ (m : ℕ). x.clock m ≤ bound in
           together bound (back bound r.indices (all_left Timed r.indices _ taken) (all_left P (map (new_number a) r.indices) (map (new_number a) (offsets_taken r.steps)) h))
           (back bound (offsets_taken r.steps) offsets_timed (all_right P (map (new_number a) r.indices) (map (new_number a) (offsets_taken r.steps)) h)) k l
 
-      aims_back : (row : Option ℕ) → r.row ≡ row → (is : List Operand) (here last : List Operation) (t : Reach) → IsAimed a r row is here last t → first ≤ length here → OperationsGrow last all
+      aims_back : (row : Option ℕ) → r.row ≡ row → (is : List Operand) (here last : List Operation) (t : Reach) → IsAimedReach a r row is here last t → first ≤ length here → OperationsGrow last all
           → (bound : ℕ) → AllByRecursion (λ m. x.clock m ≤ bound) (reach_takes t) → AllByRecursion (λ v. old_clock v ≤ bound) (reach_takes r)
       aims_back None e is here last t h begun grows bound below =
           let P = λ (m : ℕ). x.clock m ≤ bound in
           let w = waited here (new_or_none a r.select) in
           let b = subst (λ (u : Reach). AllByRecursion P (reach_takes u)) h.reach below in
-          let first_part = all_left P (all_taken a r ++ one_or_none w.sum) _ b in
+          let first_part = all_left P (indices_and_offsets a r ++ one_or_none w.sum) _ b in
           let to_last = but_aim_grows (literal_places (dims_at p.table r.memory) is 0 0) _ _ _ _ (is_banked r) w.operations last h.row h.select h.aim in
-          all_back bound (all_left P (all_taken a r) _ first_part)
-          (waited_back bound here r.select begun (grows_on w.operations last all to_last grows) (all_left Timed (one_or_none r.select) (one_or_none r.row) rest_timed) (all_right P (all_taken a r) _ first_part))
+          all_back bound (all_left P (indices_and_offsets a r) _ first_part)
+          (waited_back bound here r.select begun (grows_on w.operations last all to_last grows) (all_left Timed (one_or_none r.select) (one_or_none r.row) rest_timed) (all_right P (indices_and_offsets a r) _ first_part))
           (subst (λ (o : Option ℕ). AllByRecursion (λ v. old_clock v ≤ bound) (one_or_none o)) (sym e) tt)
       aims_back (Some row) e is here last t h begun grows bound below =
           let P = λ (m : ℕ). x.clock m ≤ bound in
           let b = subst (λ (u : Reach). AllByRecursion P (reach_takes u)) h.1 below in
-          let rest = all_right P (all_taken a r) _ b in
+          let rest = all_right P (indices_and_offsets a r) _ b in
           let row_timed = subst (λ (o : Option ℕ). AllByRecursion Timed (one_or_none o)) e (all_right Timed (one_or_none r.select) (one_or_none r.row) rest_timed) in
           let row_below = all_right P (one_or_none (new_or_none a r.select)) (new_number a row ∷ []) rest in
-          all_back bound (all_left P (all_taken a r) _ b)
+          all_back bound (all_left P (indices_and_offsets a r) _ b)
           (maybe_back bound r.select (all_left Timed (one_or_none r.select) (one_or_none r.row) rest_timed) (all_left P (one_or_none (new_or_none a r.select)) (new_number a row ∷ []) rest))
           (subst (λ (o : Option ℕ). AllByRecursion (λ v. old_clock v ≤ bound) (one_or_none o)) (sym e) ((let c = row_timed.0 in let l = row_below.0 in omega (arith, c, l)), tt))
 
@@ -338,7 +338,7 @@ module _ (p : PlainPlan) (maps : HasMaps p) (tables : IsProgramTable p.table) (b
             ),
           )
         where
-          aimed_bound : (vs : List ℕ) (row : ℕ) (select : Option ℕ) → t ≡ aimed r vs row select → AllByRecursion (λ v. x.clock v ≤ needed) (reach_takes (aimed r vs row select))
+          aimed_bound : (vs : List ℕ) (row : ℕ) (select : Option ℕ) → t ≡ aimed_reach r vs row select → AllByRecursion (λ v. x.clock v ≤ needed) (reach_takes (aimed_reach r vs row select))
               → AllByRecursion (λ v. x.clock v ≤ needed) (reach_takes t)
           aimed_bound vs row select e h = subst (λ (u : Reach). AllByRecursion (λ v. x.clock v ≤ needed) (reach_takes u)) (sym e) h
 
@@ -468,7 +468,7 @@ module _ (p : PlainPlan) (maps : HasMaps p) (tables : IsProgramTable p.table) (b
           let J = IsInputOf x needed a (length here) in
           let behind = all_right J r.indices _ later in
           let rest = all_right J (offsets_taken r.steps) _ behind in
-          all_join I (all_taken a r) _
+          all_join I (indices_and_offsets a r) _
           (all_join I (map (new_number a) r.indices) (map (new_number a) (offsets_taken r.steps)) (mapped r.indices (all_left J r.indices _ later)) (mapped (offsets_taken r.steps) (all_left J (offsets_taken r.steps) _ behind)))
           (all_join I (one_or_none (new_or_none a r.select)) _ (maybe r.select (all_left J (one_or_none r.select) (one_or_none r.row) rest))
           (maybe r.row (all_right J (one_or_none r.select) (one_or_none r.row) rest)))
@@ -484,9 +484,9 @@ module _ (p : PlainPlan) (maps : HasMaps p) (tables : IsProgramTable p.table) (b
       chain_back : (bound : ℕ) → AllByRecursion (λ m. x.clock m ≤ bound) (new_takes a r) → AllByRecursion (λ v. old_clock v ≤ bound) (reach_takes r)
       chain_back bound h =
           let P = λ (m : ℕ). x.clock m ≤ bound in
-          let rest = all_right P (all_taken a r) _ h in
+          let rest = all_right P (indices_and_offsets a r) _ h in
           let t = rest_timed r suits timed in
-          all_back r suits timed bound (all_left P (all_taken a r) _ h)
+          all_back r suits timed bound (all_left P (indices_and_offsets a r) _ h)
           (maybe_back bound r.select (all_left Timed (one_or_none r.select) (one_or_none r.row) t) (all_left P (one_or_none (new_or_none a r.select)) _ rest))
           (maybe_back bound r.row (all_right Timed (one_or_none r.select) (one_or_none r.row) t) (all_right P (one_or_none (new_or_none a r.select)) _ rest))
 

@@ -32,7 +32,7 @@ use Rattle.dh_rows.proofs.Growing.{grows_on, obeys_before}
 use Rattle.dh_address.proofs.WaySizes.{HasMaps}
 use Rattle.dh_address.specs.declared.operands.Ranged.{Ranged}
 use Rattle.dh_address.specs.LiteralPlaces.{below_size}
-use Rattle.dh_address.specs.Pieces.{Around, new_number, new_or_none, check_made, AreChecked, IsProbed, IsReadMade, IsWriteMade, IsFormMade}
+use Rattle.dh_address.specs.Pieces.{RenumberedBlock, new_number, new_or_none, check_made, AreChecked, IsProbed, IsReadMade, IsWriteMade, IsFormMade}
 use Rattle.dh_address.specs.Renumbered.{renumbered}
 use Rattle.dh_address.proofs.AccessesLead.{holds_on}
 use Rattle.dh_address.proofs.AccessesPut.{IsInputOf}
@@ -215,7 +215,7 @@ module _ (p : PlainPlan) (maps : HasMaps p) (tables : IsProgramTable p.table) (b
   module _ (fits : AreInKinds p block ws) (listed : ReachesListed p maps tables bs block front begins formed all_formed registers memories) where
     module _ (ns : List ℕ) (ks : List Kind) (i : ℕ) (o : Operation) (old mid : List Operation) (n : ℕ) (at : IsPieceAt p maps tables bs block front begins formed ns ks i o old mid n)
         (takes : AllByRecursion (λ v. SameWord p maps tables bs block front begins formed all_formed registers memories v (renumbered old_first ns v)) (operation_takes o)) where
-      abbrev a : Around
+      abbrev a : RenumberedBlock
       a = around p block ns ks
 
       abbrev Good : ℕ → Type 0

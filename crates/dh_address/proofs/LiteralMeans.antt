@@ -24,7 +24,7 @@ use Rattle.dh_rows.specs.MadeOperations.{bits_in}
 use Rattle.dh_rows.proofs.BitsOfNumbers.{bits_above, bits_most}
 use Rattle.dh_address.specs.declared.literals.LiteralPlace.{LiteralPlace}
 use Rattle.dh_address.specs.declared.operands.Operand.{Operand}
-use Rattle.dh_address.specs.LiteralPlaces.{natural_in, natural_if, whole_in, whole_if, whole_at, constant_form, constant_guarded, constant_in, literal_at, below_size, and_then, literal_places}
+use Rattle.dh_address.specs.LiteralPlaces.{natural_in, natural_if, whole_in, whole_if_constant, whole_at, constant_form, constant_guarded, constant_in, literal_at, below_size, and_then, literal_places}
 use Rattle.dh_address.specs.Pieces.{aim_width, select_width}
 
 -- Literals.
@@ -95,7 +95,7 @@ wholes_mean (kind.Signed w) bits z e = of (nat_le w 64) (signed w bits) e
 pub whole_means : (os : List Operation) (place : ℕ) (z : ℤ) → whole_at os place ≡ Some z → IsWholeOf os place z
 whole_means os place z e = of (constant_in (slice_get os place)) refl e
   where
-    of : (c : Option Word) → constant_in (slice_get os place) ≡ c → whole_if c ≡ Some z → IsWholeOf os place z
+    of : (c : Option Word) → constant_in (slice_get os place) ≡ c → whole_if_constant c ≡ Some z → IsWholeOf os place z
     of None at e = absurd (cc)
     of (Some w) at e = record { word = w; there = constant_is (slice_get os place) w at; value = wholes_mean w.kind w.bits z e }
 

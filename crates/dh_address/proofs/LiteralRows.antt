@@ -19,7 +19,7 @@ use Rattle.dh_plan.specs.SoundPlans.{use_in}
 use Rattle.dh_rows.specs.Readings.{OperationsGrow, is_plain}
 use Rattle.dh_rows.specs.MadeOperations.{IsMade, pushed}
 use Rattle.dh_rows.proofs.Growing.{grown_length, grows_on, kept_there, was_there}
-use Rattle.dh_address.specs.Pieces.{Around, IsAccessMade, IsFormMade, IsPiece, new_number, new_or_none}
+use Rattle.dh_address.specs.Pieces.{RenumberedBlock, IsAccessMade, IsFormMade, IsPiece, new_number, new_or_none}
 use Rattle.dh_address.specs.declared.operands.Ranged.{Ranged}
 use Rattle.dh_address.specs.Images.{ArePieces, and_known}
 use Rattle.dh_address.proofs.ImageReadings.{at_last}
@@ -62,7 +62,7 @@ allows_unused g fault [] = tt
 allows_unused g fault (r ∷ rs) = ((λ e test. refl), allows_unused g fault rs)
 
 -- the read or write of an operation
-pub record IsUsePut (a : Around) (f : OperationForm) (old new : List Operation) (t : Reach) : Type 0 where
+pub record IsUsePut (a : RenumberedBlock) (f : OperationForm) (old new : List Operation) (t : Reach) : Type 0 where
   pub old_reach : Reach
   pub uses : use_in f ≡ Some old_reach
   pub guard : Option ℕ
@@ -71,7 +71,7 @@ pub record IsUsePut (a : Around) (f : OperationForm) (old new : List Operation) 
   pub made : IsAccessMade a guard old_reach old last on t
   pub grows : OperationsGrow last new
 
-module _ (a : Around) where
+module _ (a : RenumberedBlock) where
   one_unused : (old new : List Operation) (g : Option ℕ) (h : OperationForm) (n : ℕ) → IsMade new n (pushed old g h) → use_in h ≡ None → GrowsBy IsUnused old new
   one_unused old new g h n made e = record { more = record { guard = g; form = h } ∷ []; appended = made.0; each = (e, tt) }
 
@@ -128,13 +128,13 @@ module _ (base : List Operation) where
     pub there : slice_get list n ≡ Some (record { guard = None; form = Constant w })
 
   -- so are those that are known
-  pub record KeepsConstants (a : Around) (list : List Operation) : Type 0 where
+  pub record KeepsConstants (a : RenumberedBlock) (list : List Operation) : Type 0 where
     pub each : (i : ℕ) (w : Word) → i < length a.numbers → slice_get a.operations i ≡ Some (record { guard = None; form = Constant w }) → IsKept list (slice_index a.numbers i) w
 
   pub kept_on : (list new : List Operation) (n : ℕ) (w : Word) → OperationsGrow list new → IsKept list n w → IsKept new n w
   kept_on list new n w g h = record { begun = h.begun; there = kept_there list new g n _ h.there }
 
-  keeps_more : (a : Around) (o : Operation) (list mid : List Operation) (n : ℕ) (k : Kind) → KeepsConstants a list → OperationsGrow base list → IsPiece a o list mid n
+  keeps_more : (a : RenumberedBlock) (o : Operation) (list mid : List Operation) (n : ℕ) (k : Kind) → KeepsConstants a list → OperationsGrow base list → IsPiece a o list mid n
       → slice_get a.operations (length a.numbers) ≡ Some o → KeepsConstants (and_known a n k) mid
   keeps_more a o list mid n k h begun piece at = record { each = λ i w l e. of i w l e (cases_lt i (length a.numbers)) }
     where
@@ -157,11 +157,11 @@ module _ (base : List Operation) where
           })
 
   -- the read or write of some operation of a block, and what is known there
-  pub record HasUsePut (a : Around) (os new : List Operation) (t : Reach) : Type 0 where
+  pub record HasUsePut (a : RenumberedBlock) (os new : List Operation) (t : Reach) : Type 0 where
     pub place : ℕ
     pub operation : Operation
     pub there : slice_get os place ≡ Some operation
-    pub around : Around
+    pub around : RenumberedBlock
     pub table_is : around.table ≡ a.table
     pub operations_are : around.operations ≡ a.operations
     pub first_is : around.first ≡ a.first
@@ -174,7 +174,7 @@ module _ (base : List Operation) where
     pub use_put : IsUsePut around operation.form before after t
     pub grows : OperationsGrow after new
 
-  pub use_found : (registers : List Kind) (os : List Operation) (a : Around) (list new : List Operation) (numbers : List ℕ) → ArePieces registers a os list new numbers → KeepsConstants a list → OperationsGrow base list
+  pub use_found : (registers : List Kind) (os : List Operation) (a : RenumberedBlock) (list new : List Operation) (numbers : List ℕ) → ArePieces registers a os list new numbers → KeepsConstants a list → OperationsGrow base list
       → ((i : ℕ) (o : Operation) → slice_get os i ≡ Some o → slice_get a.operations (length a.numbers + i) ≡ Some o)
       → (j : ℕ) (x : Operation) (t : Reach) → length list ≤ j → slice_get new j ≡ Some x → use_in x.form ≡ Some t → HasUsePut a os new t
   use_found registers [] a list new numbers h keeps begun at j x t l e used =
@@ -186,7 +186,7 @@ module _ (base : List Operation) where
       k : Kind
       k = form_kind a.table registers a.first a.kinds o.form
 
-      next : Around
+      next : RenumberedBlock
       next = and_known a h.number k
 
       grows : OperationsGrow list h.mid

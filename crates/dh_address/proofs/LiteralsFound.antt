@@ -41,9 +41,9 @@ use Rattle.dh_rows.specs.RowsShown.{is_below_size}
 use Rattle.dh_address.specs.declared.literals.LiteralPlace.{LiteralPlace}
 use Rattle.dh_address.specs.declared.operands.Operand.{Operand}
 use Rattle.dh_address.specs.declared.operands.Ranged.{Ranged}
-use Rattle.dh_address.specs.Arounds.{Around}
-use Rattle.dh_address.specs.LiteralPlaces.{and_then, below_size, constant_in, literal_at, literal_in, literal_places, natural_in, whole_at, whole_if, whole_in}
-use Rattle.dh_address.specs.WaysMade.{Way, way, operand_of, ranges_by, is_near, bounded_unless, offset_bounded, maybe_range, index_moved, steps_by, moved_literal, moved_operand, moved_one, moved_all, ones, split_made, dealt_known, passed_by, passed_if, step_passed, steps_passed, way_begun, passed_to, reach_passed}
+use Rattle.dh_address.specs.Arounds.{RenumberedBlock}
+use Rattle.dh_address.specs.LiteralPlaces.{and_then, below_size, constant_in, literal_at, literal_in, literal_places, natural_in, whole_at, whole_if_constant, whole_in}
+use Rattle.dh_address.specs.WaysMade.{IndexWay, way, operand_of, ranges_by, is_near, bounded_unless, offset_bounded, maybe_range, index_moved, steps_by, moved_literal, moved_operand, moved_one, moved_all, unit_factors, split_made, dealt_known, passed_by, passed_if, step_passed, steps_passed, way_begun, passed_to, reach_passed}
 use Rattle.dh_address.proofs.AccessesLead.{both_true, in_range}
 use Rattle.dh_address.proofs.AccessesPut.{all_join}
 use Rattle.dh_address.proofs.FewElements.{rows_below}
@@ -203,13 +203,13 @@ wholes_long (e ∷ es) [] h = absurd h
 wholes_long (e ∷ es) (z ∷ zs) h = ap suc (wholes_long es zs h.1)
 
 -- behind those of a way come these
-pub record AllKnown (w after : Way) (zs : List ℤ) : Type 0 where
+pub record AllKnown (w after : IndexWay) (zs : List ℤ) : Type 0 where
   pub more : List Operand
   pub ranges_are : after.ranges ≡ w.ranges
   pub indices_are : after.indices ≡ w.indices ++ more
   pub known : AreKnownAs more zs
 
-known_more : (w next after : Way) (i : Operand) (z : ℤ) (zs : List ℤ) (here : List Ranged) → next.ranges ≡ w.ranges ++ here → here ≡ [] → next.indices ≡ w.indices ++ i ∷ [] → IsKnownAs i z → AllKnown next after zs
+known_more : (w next after : IndexWay) (i : Operand) (z : ℤ) (zs : List ℤ) (here : List Ranged) → next.ranges ≡ w.ranges ++ here → here ≡ [] → next.indices ≡ w.indices ++ i ∷ [] → IsKnownAs i z → AllKnown next after zs
     → AllKnown w after (z ∷ zs)
 known_more w next after i z zs here ranges none indices k rest = record {
   more = i ∷ rest.more;
@@ -222,7 +222,7 @@ nothing_inside : (zs : List ℤ) → is_inside [] zs ≡ true → zs ≡ []
 nothing_inside [] e = refl
 nothing_inside (z ∷ zs) e = absurd (cc)
 
-all_known : (ds : List Dim) (ks : List ℕ) (es is : List Operand) (ez iz : List ℤ) (w : Way) → AreFew ds → AreFactors ks → length ks ≡ length ds → length es ≡ length ds → AreWholes es ez → AreKnownAs is iz
+all_known : (ds : List Dim) (ks : List ℕ) (es is : List Operand) (ez iz : List ℤ) (w : IndexWay) → AreFew ds → AreFactors ks → length ks ≡ length ds → length es ≡ length ds → AreWholes es ez → AreKnownAs is iz
     → is_inside ds iz ≡ true → is_inside ds (sums (multiples ks ez) iz) ≡ true → AllKnown w (moved_all ds ks es is w) (sums (multiples ks ez) iz)
 all_known [] ks es is ez iz w few some kl el whole k inside there = record {
   more = [];
@@ -296,7 +296,7 @@ sort_known Suffix v es is ez zs os tested h own few el whole k e there l =
     let m = all_known v.parent.dims v.by es is ez zs (way os tested []) few (suffix_factors v.shape.dims v.parent.dims v.by h) (dims_long Suffix v.shape.dims v.parent.dims v.by h).1 el whole k inside there in
     (subst (λ (rs : List Ranged). AreAllLiteral rs) (sym m.ranges_are) l, subst (λ (js : List Operand). AreKnownAs js (sums (multiples v.by ez) zs)) (sym m.indices_are) m.known)
 sort_known Shift v es is ez zs os tested h own few el whole k e there l =
-    let factors = ones v.parent.dims in
+    let factors = unit_factors v.parent.dims in
     let same = ones_sums v.parent.dims ez zs (sym (wholes_long es ez whole) ∙ el) in
     let inside = subst (λ (ds : List Dim). is_inside ds zs ≡ true) h.0 e in
     let there_too = subst (λ (ys : List ℤ). is_inside v.parent.dims ys ≡ true) (sym same) there in
@@ -324,7 +324,7 @@ module _ (p : PlainPlan) (maps : HasMaps p) (tables : IsProgramTable p.table) (f
       of None f g = absurd f
       of (Some v) f g = subst (λ (ds : List Dim). is_inside ds zs ≡ true) f.0 (through_some (is_inside v.shape.dims zs) _ _ g).0
 
-  pub steps_known : (a : Around) → a.views ≡ p.views → (ss : List ReachStep) (dims : List Dim) (zs : List ℤ) (w : Way) → AreSteps p first kinds memory ss dims
+  pub steps_known : (a : RenumberedBlock) → a.views ≡ p.views → (ss : List ReachStep) (dims : List Dim) (zs : List ℤ) (w : IndexWay) → AreSteps p first kinds memory ss dims
       → AllByRecursion (λ s. AreWholes (map (operand_of a) s.offsets) (offsets s)) ss → AreKnownAs w.indices zs → AreAllLiteral w.ranges → Leads ss zs
       → AreAllLiteral (steps_passed a ss w).ranges × AreAllLiteral (ranges_by (dims_at p.table memory) (steps_passed a ss w).indices)
   steps_known a views [] dims zs w s whole k l e = (l, known_literal (dims_at p.table memory) w.indices zs k (some_if (is_inside (dims_at p.table memory) zs) _ spot e))
@@ -332,13 +332,13 @@ module _ (p : PlainPlan) (maps : HasMaps p) (tables : IsProgramTable p.table) (f
       of (slice_get p.views t.view) refl s (ap (λ (vs : List ViewMap). passed_if (slice_get vs t.view) (map (operand_of a) t.offsets) w) views) e
       (λ ds ys next f g h i. steps_known a views ts ds ys next f whole.1 g h i)
     where
-      Result : Way → Type 0
+      Result : IndexWay → Type 0
       Result last = AreAllLiteral last.ranges × AreAllLiteral (ranges_by (dims_at p.table memory) last.indices)
 
       of : (o : Option ViewMap) → slice_get p.views t.view ≡ o → StepFits p first kinds t.offsets o dims (AreSteps p first kinds memory ts)
           → step_passed a t w ≡ passed_if (slice_get p.views t.view) (map (operand_of a) t.offsets) w
           → spot_if_inside p.table memory (where_inside (through_view o (offsets t) zs) (indices_behind p.views (passed_with offsets ts))) ≡ Some spot
-          → ((ds : List Dim) (ys : List ℤ) (next : Way) → AreSteps p first kinds memory ts ds → AreKnownAs next.indices ys → AreAllLiteral next.ranges → Leads ts ys → Result (steps_passed a ts next))
+          → ((ds : List Dim) (ys : List ℤ) (next : IndexWay) → AreSteps p first kinds memory ts ds → AreKnownAs next.indices ys → AreAllLiteral next.ranges → Leads ts ys → Result (steps_passed a ts next))
           → Result (steps_passed a ts (step_passed a t w))
       of None at f same g rest = absurd f
       of (Some v) at f same g rest =
@@ -350,7 +350,7 @@ module _ (p : PlainPlan) (maps : HasMaps p) (tables : IsProgramTable p.table) (f
           (mapped_long (operand_of a) t.offsets ∙ f.1.0) whole.0 k c.0 (first_inside ts v.parent.dims (named_by v (offsets t) zs) f.1.1 c.1)
           (literals_join w.ranges (ranges_by v.shape.dims w.indices) l (known_literal v.shape.dims w.indices zs k c.0))
           in
-          subst (λ (n : Way). Result (steps_passed a ts n)) (sym is) (rest v.parent.dims (named_by v (offsets t) zs) (passed_if (Some v) (map (operand_of a) t.offsets) w) f.1.1 m.1 m.0 c.1)
+          subst (λ (n : IndexWay). Result (steps_passed a ts n)) (sym is) (rest v.parent.dims (named_by v (offsets t) zs) (passed_if (Some v) (map (operand_of a) t.offsets) w) f.1.1 m.1 m.0 c.1)
 
 module _ (p : PlainPlan) (block : ℕ) (formed : IsFormedBlock p block) where
   abbrev first : ℕ
@@ -379,7 +379,7 @@ module _ (p : PlainPlan) (block : ℕ) (formed : IsFormedBlock p block) where
 
   whole_here : (v : ℕ) (c : IsConstantAt p block v) → whole_at os (v - first) ≡ whole_in c.word.kind c.word.bits
   whole_here v c =
-      ap (λ (n : ℕ). whole_at os n) (ap (λ (n : ℕ). n - first) c.own ∙ add-sub_cancel_left first c.place) ∙ ap (λ (o : Option Operation). whole_if (constant_in o)) c.there
+      ap (λ (n : ℕ). whole_at os n) (ap (λ (n : ℕ). n - first) c.own ∙ add-sub_cancel_left first c.place) ∙ ap (λ (o : Option Operation). whole_if_constant (constant_in o)) c.there
 
   pub constant_known : (v size : ℕ) → (c : IsConstantAt p block v) → IsNumber p first (kinds_of p block) v → (registers : List ℕ) (memories : List (List ℕ))
       → is_below_size (value_of (word_at first (block_values p (start_at p registers memories) block) v)) size ≡ true
@@ -396,13 +396,13 @@ module _ (p : PlainPlan) (block : ℕ) (formed : IsFormedBlock p block) where
           (both_true (int_le (pos 0) (value_of c.word)) (int_lt (value_of c.word) (pos size)) within).0
 
   -- what the pass knows of a block
-  pub record IsOfBlock (a : Around) : Type 0 where
+  pub record IsOfBlock (a : RenumberedBlock) : Type 0 where
     pub table : a.table ≡ p.table
     pub views : a.views ≡ p.views
     pub operations : a.operations ≡ os
     pub first_is : a.first ≡ first
 
-  module _ (a : Around) (own : IsOfBlock a) where
+  module _ (a : RenumberedBlock) (own : IsOfBlock a) where
     literal_as : (v : ℕ) → literal_at a.operations (v - a.first) ≡ literal_at os (v - first)
     literal_as v = ap (λ (l : List Operation). literal_at l (v - a.first)) own.operations ∙ ap (λ (n : ℕ). literal_at os (v - n)) own.first_is
 

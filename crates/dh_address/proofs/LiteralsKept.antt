@@ -25,7 +25,7 @@ use Rattle.dh_rows.specs.MadeOperations.{constant_made}
 use Rattle.dh_rows.proofs.Growing.{grown_length, grows_on, grows_self, kept_there}
 use Rattle.dh_address.proofs.WaySizes.{HasMaps}
 use Rattle.dh_address.specs.declared.literals.LiteralPlace.{LiteralPlace}
-use Rattle.dh_address.specs.Pieces.{Around, IsAim, IsAimBut, IsAimed, IsAimedByIndices, aim_width, is_banked, new_number, new_or_none, select_width, values_of, waited}
+use Rattle.dh_address.specs.Pieces.{RenumberedBlock, IsAim, IsAimBut, IsAimedReach, IsAimedByIndices, aim_width, is_banked, new_number, new_or_none, select_width, operand_values, waited}
 use Rattle.dh_address.specs.declared.operands.Operand.{Operand}
 use Rattle.dh_address.specs.WaysMade.{ranges_by, reach_passed}
 use Rattle.dh_address.specs.Images.{IsImage, around_block, operations_until}
@@ -116,7 +116,7 @@ module _ (p q : PlainPlan) (h : IsImage p q) (formed : (block : ℕ) → IsForme
           ∙ (ap (λ (os : List Operation). slice_get os n) (sym (until_block q.blocks c)) ∙ k.there))
 
   -- Of an access by a row: its values are constants of the old block, and known.
-  module _ (a : Around) (before : List Operation) (own : ℕ) (keeps : KeepsConstants base a before) (grows : OperationsGrow before whole) (operations_are : a.operations ≡ operations_in p c)
+  module _ (a : RenumberedBlock) (before : List Operation) (own : ℕ) (keeps : KeepsConstants base a before) (grows : OperationsGrow before whole) (operations_are : a.operations ≡ operations_in p c)
       (first_is : a.first ≡ first_in p c) (long : length a.numbers ≡ own) where
     known_constant : (v : ℕ) → IsConstantAt p c v → IsBetween (first_in p c) (first_in p c + own) v → IsConstantAt q c (new_number a v)
     known_constant v k between = kept_constant (new_number a v) k.word (kept_on base before whole (new_number a v) k.word grows kept)
@@ -159,7 +159,7 @@ module _ (p q : PlainPlan) (h : IsImage p q) (formed : (block : ℕ) → IsForme
   rows_of_use : (number : ℕ) (t : Reach) → IsLiteralAccess p number → t.access ≡ number → HasUsePut base (around_block p c) (operations_in p c) whole t → IsConstantOr q c t.row × IsConstantOr q c t.select
   rows_of_use number t literal same u = by_row r.row refl
     where
-      a : Around
+      a : RenumberedBlock
       a = u.around
 
       put : IsUsePut a u.operation.form u.before u.after t
@@ -199,7 +199,7 @@ module _ (p q : PlainPlan) (h : IsImage p q) (formed : (block : ℕ) → IsForme
 
       by_given : (row : ℕ) → r.row ≡ Some row → IsConstantOr q c t.row × IsConstantOr q c t.select
       by_given row is =
-          let aims = subst (λ (o : Option ℕ). IsAimed a r o put.made.indices put.made.guarded put.last t) is put.made.aims in
+          let aims = subst (λ (o : Option ℕ). IsAimedReach a r o put.made.indices put.made.guarded put.last t) is put.made.aims in
           let named = subst (λ (o : Option ℕ). NamedByConstants p c r o) is literals.constants in
           let Between = IsBetween (first_in p c) (first_in p c + u.place) in
           let behind = all_back Between (offsets_taken r.steps) (one_or_none r.select ++ one_or_none r.row) (all_back Between r.indices (offsets_taken r.steps ++ (one_or_none r.select ++ one_or_none r.row)) takes) in
@@ -211,7 +211,7 @@ module _ (p q : PlainPlan) (h : IsImage p q) (formed : (block : ℕ) → IsForme
 
       by_indices : r.row ≡ None → IsConstantOr q c t.row × IsConstantOr q c t.select
       by_indices is =
-          let aims : IsAimedByIndices a r put.made.indices put.made.guarded put.last t = subst (λ (o : Option ℕ). IsAimed a r o put.made.indices put.made.guarded put.last t) is put.made.aims in
+          let aims : IsAimedByIndices a r put.made.indices put.made.guarded put.last t = subst (λ (o : Option ℕ). IsAimedReach a r o put.made.indices put.made.guarded put.last t) is put.made.aims in
           let own : IsOfBlock p c (formed c) a = record { table = u.table_is; views = u.views_is; operations = u.operations_are; first_is = u.first_is } in
           let ranges = (literal_ways p c (formed c) a own maps tables r suits literals u.before).1 is in
           let dims = dims_at a.table r.memory in
@@ -219,7 +219,7 @@ module _ (p q : PlainPlan) (h : IsImage p q) (formed : (block : ℕ) → IsForme
           = subst (λ (os : List Operand). AreAllLiteral (ranges_by dims os)) (sym put.made.passes.1.1) (subst (λ (t : List MemEntry). AreAllLiteral (ranges_by (dims_at t r.memory) (reach_passed a r u.before).indices)) (sym u.table_is) ranges)
           in
           let found = places_found dims put.made.indices 0 0 at_own in
-          let aim = subst (λ (o : Option LiteralPlace). IsAimBut o (aim_width dims) (select_width dims) dims (values_of put.made.indices) (is_banked r)
+          let aim = subst (λ (o : Option LiteralPlace). IsAimBut o (aim_width dims) (select_width dims) dims (operand_values put.made.indices) (is_banked r)
           (waited put.made.guarded (new_or_none a r.select)).operations put.last aims.row aims.select) found.1 aims.aim in
           let two = aim_constants (is_banked r) (aim_width dims) (select_width dims) found.0.row found.0.bank (waited put.made.guarded (new_or_none a r.select)).operations put.last aims.row aims.select
           (grows_on base put.made.guarded _ begun_guarded (waited_grows put.made.guarded (new_or_none a r.select))) behind_last aim in

@@ -23,7 +23,7 @@ use Rattle.dh_rows.proofs.Growing.{grows_on}
 use Rattle.dh_address.proofs.WaySizes.{HasMaps}
 use Rattle.dh_address.specs.declared.operands.Ranged.{Ranged}
 use Rattle.dh_address.specs.LiteralPlaces.{below_size}
-use Rattle.dh_address.specs.Pieces.{Around, new_number, new_or_none, check_made, AreChecked, IsProbed, IsAccessMade, IsReadMade, IsWriteMade, IsFormMade}
+use Rattle.dh_address.specs.Pieces.{RenumberedBlock, new_number, new_or_none, check_made, AreChecked, IsProbed, IsAccessMade, IsReadMade, IsWriteMade, IsFormMade}
 use Rattle.dh_address.proofs.AccessesPut.{IsInputOf}
 use Rattle.dh_address.proofs.GoodPieces.{AreGoodPieces, StandsInPiece, piece_around, around_rises, around_same}
 use Rattle.dh_address.proofs.ImageReadings.{timeless, FormedBelow, behind_front, was_in, at_last}
@@ -84,7 +84,7 @@ made_between P old mid n g f h own m u l e =
     last a m b l k e = omega (arith, l, k, e)
 
 -- a check of a probe
-pub record IsProbeCheck (a : Around) (o u : Operation) : Type 0 where
+pub record IsProbeCheck (a : RenumberedBlock) (o u : Operation) : Type 0 where
   pub reach : Reach
   pub fault : ℕ
   pub ok : ℕ
@@ -92,13 +92,13 @@ pub record IsProbeCheck (a : Around) (o u : Operation) : Type 0 where
   pub check : u ≡ record { guard = new_or_none a o.guard; form = Check ok fault }
 
 -- an access as it was put down
-pub record IsUseOf (a : Around) (g : Option ℕ) (r : Reach) (old all : List Operation) (u : Operation) (t : Reach) : Type 0 where
+pub record IsUseOf (a : RenumberedBlock) (g : Option ℕ) (r : Reach) (old all : List Operation) (u : Operation) (t : Reach) : Type 0 where
   pub last : List Operation
   pub access : IsAccessMade a (new_or_none a g) r old last u.guard t
   pub grows : OperationsGrow last all
 
 -- the old operation itself
-abbrev pub IsOwnForm : Around → (g : Option ℕ) → (old all : List Operation) → OperationForm → Operation → Type 0
+abbrev pub IsOwnForm : RenumberedBlock → (g : Option ℕ) → (old all : List Operation) → OperationForm → Operation → Type 0
 IsOwnForm a g old all (Constant word) u = u ≡ record { guard = new_or_none a g; form = Constant word }
 IsOwnForm a g old all (Old register) u = u ≡ record { guard = new_or_none a g; form = Old register }
 IsOwnForm a g old all (Compute o left right) u = u ≡ record { guard = new_or_none a g; form = Compute o (new_number a left) (new_number a right) }
@@ -110,7 +110,7 @@ IsOwnForm a g old all (Read r) u = (t : Reach) × ((u.form ≡ Read t) × IsUseO
 IsOwnForm a g old all (Write r value) u = (t : Reach) × ((u.form ≡ Write t (new_number a value)) × IsUseOf a g r old all u t)
 IsOwnForm a g old all (Set register value) u = u ≡ record { guard = new_or_none a g; form = Set register (new_number a value) }
 
-abbrev pub IsPart : Around → (o : Operation) → (old all : List Operation) → (n m : ℕ) → Operation → Type 0
+abbrev pub IsPart : RenumberedBlock → (o : Operation) → (old all : List Operation) → (n m : ℕ) → Operation → Type 0
 IsPart a o old all n m u = IsQuiet u ⊎ (IsProbeCheck a o u ⊎ ((m ≡ n) × IsOwnForm a o.guard old all o.form u))
 
 module _ (p : PlainPlan) (maps : HasMaps p) (tables : IsProgramTable p.table) (bs : List PlanBlock) (block : ℕ) (front : List Operation) (begins : length front ≡ first_in (image_of p bs) block)
@@ -131,7 +131,7 @@ module _ (p : PlainPlan) (maps : HasMaps p) (tables : IsProgramTable p.table) (b
   y = timeless q block (start_at q [] [])
 
   module _ (ns : List ℕ) (ks : List Kind) (i : ℕ) (o : Operation) (old mid : List Operation) (n : ℕ) (at : IsPieceAt p maps tables bs block front begins formed ns ks i o old mid n) where
-    abbrev a : Around
+    abbrev a : RenumberedBlock
     a = around p block ns ks
 
     abbrev Part : ℕ → Operation → Type 0

@@ -26,7 +26,7 @@ use Rattle.dh_rows.specs.MadeOperations.{pushed, IsMade}
 use Rattle.dh_rows.specs.RowsShown.{IsInput}
 use Rattle.dh_rows.proofs.Growing.{grows_on, grown_length, kept_there, pushed_grows, adds_on, maybe_later, pushed_adds, pushed_value}
 use Rattle.dh_address.proofs.WaySizes.{HasMaps}
-use Rattle.dh_address.specs.Pieces.{Around, any_takes_probe, new_number, new_or_none, known_kind, all_taken, check_made, AreChecked, is_probe_form, false_behind_all, false_word, new_takes, IsProbeValue, IsProbed, IsAimed, IsAccessMade, IsReadMade, IsWriteMade, IsFormMade, IsPiece, aimed}
+use Rattle.dh_address.specs.Pieces.{RenumberedBlock, any_takes_probe, new_number, new_or_none, known_kind, indices_and_offsets, check_made, AreChecked, is_probe_form, false_behind_all, false_word, new_takes, IsProbeValue, IsProbed, IsAimedReach, IsAccessMade, IsReadMade, IsWriteMade, IsFormMade, IsPiece, aimed_reach}
 use Rattle.dh_address.proofs.AccessesPut.{IsInputOf, PutsAccess, IsPicked, IsPicksGiven, input_later, maybe_value, aims_put, all_join, IsNumberThere, IsCountThere}
 use Rattle.dh_address.proofs.FalsePut.{many_false_put}
 use Rattle.dh_address.proofs.ImageReadings.{timeless, timeless_below, FormedAt, FormedBelow, kind_given, added_below, pushed_below, at_last}
@@ -41,7 +41,7 @@ abbrev pub image_of : PlainPlan → List PlanBlock → PlainPlan
 image_of p bs = record { table = p.table; views = []; registers = p.registers; blocks = bs; body = p.body; meets = p.meets; faults = p.faults }
 
 -- what is known as a block's pieces are put down, with these numbers and kinds so far
-abbrev pub around : PlainPlan → (block : ℕ) → (numbers : List ℕ) → List Kind → Around
+abbrev pub around : PlainPlan → (block : ℕ) → (numbers : List ℕ) → List Kind → RenumberedBlock
 around p block ns ks = record {
   table = p.table;
   views = p.views;
@@ -57,7 +57,7 @@ module _ (p : PlainPlan) (maps : HasMaps p) (tables : IsProgramTable p.table) (b
   abbrev q : PlainPlan
   q = image_of p bs
 
-  abbrev a : Around
+  abbrev a : RenumberedBlock
   a = around p block ns ks
 
   abbrev first : ℕ
@@ -176,7 +176,7 @@ module _ (p : PlainPlan) (maps : HasMaps p) (tables : IsProgramTable p.table) (b
   none_behind [] = refl
   none_behind (v ∷ vs) = ap (λ (us : List ℕ). v ∷ us) (none_behind vs)
 
-  aimed_suits : (r : Reach) → ReachSuits p (first_in p block) ks r → (old last : List Operation) (t : Reach) → (h : PutsAccess x 0 a r old last t) → Obeys x last → ReachSuits q first kinds (aimed r h.taken h.row h.select)
+  aimed_suits : (r : Reach) → ReachSuits p (first_in p block) ks r → (old last : List Operation) (t : Reach) → (h : PutsAccess x 0 a r old last t) → Obeys x last → ReachSuits q first kinds (aimed_reach r h.taken h.row h.select)
   aimed_suits r suits old last t h obeys = record {
     memory = suits.memory;
     banks = record { there = suits.banks.there; once = suits.banks.once };
@@ -187,7 +187,7 @@ module _ (p : PlainPlan) (maps : HasMaps p) (tables : IsProgramTable p.table) (b
     element = refl;
   }
 
-  picks_bank : (r : Reach) (taken : List ℕ) (row : ℕ) (select : Option ℕ) → IsPicked x 0 a r select → PicksBank q first kinds (aimed r taken row select) (Some row) select
+  picks_bank : (r : Reach) (taken : List ℕ) (row : ℕ) (select : Option ℕ) → IsPicked x 0 a r select → PicksBank q first kinds (aimed_reach r taken row select) (Some row) select
   picks_bank r taken row None h = h
   picks_bank r taken row (Some v) h = tt
 
@@ -206,13 +206,13 @@ module _ (p : PlainPlan) (maps : HasMaps p) (tables : IsProgramTable p.table) (b
   pub memory_is : (g : Option ℕ) (r : Reach) (old last : List Operation) (on : Option ℕ) (t : Reach) → IsAccessMade a (new_or_none a g) r old last on t → t.memory ≡ r.memory
   memory_is g r old last on t h = of r.row h.aims
     where
-      of : (row : Option ℕ) → IsAimed a r row h.indices h.guarded last t → t.memory ≡ r.memory
+      of : (row : Option ℕ) → IsAimedReach a r row h.indices h.guarded last t → t.memory ≡ r.memory
       of None k = ap (λ (u : Reach). u.memory) k.reach
       of (Some row) k = ap (λ (u : Reach). u.memory) k.1
 
   -- once row and bank are put down
   with_access : (r : Reach) (old guarded last : List Operation) (on : Option ℕ) (t : Reach) → PutsMaybe x 0 old guarded kind.Bool on → (access : PutsAccess x 0 a r guarded last t) → OperationsGrow last all
-      → first ≤ length old → Formed (length old) → ReachSuits p (first_in p block) ks r → PutsUse r old last on (aimed r access.taken access.row access.select)
+      → first ≤ length old → Formed (length old) → ReachSuits p (first_in p block) ks r → PutsUse r old last on (aimed_reach r access.taken access.row access.select)
   with_access r old guarded last on t guards access grows begun formed suits =
       let adds = adds_on x 0 old guarded last guards.adds access.adds in
       let all_formed = adds_formed old last adds grows formed in
@@ -327,7 +327,7 @@ module _ (p : PlainPlan) (maps : HasMaps p) (tables : IsProgramTable p.table) (b
       let behind = all_right P r.indices _ h in
       let last = all_right P (offsets_taken r.steps) _ behind in
       let I = λ (v : ℕ). IsInput x 0 os v in
-      all_join I (all_taken a r) _
+      all_join I (indices_and_offsets a r) _
       (all_join I (map (new_number a) r.indices) (map (new_number a) (offsets_taken r.steps)) (new_inputs os r.indices (all_left P r.indices _ h))
       (new_inputs os (offsets_taken r.steps) (all_left P (offsets_taken r.steps) _ behind)))
       (all_join I (one_or_none (new_or_none a r.select)) _ (maybe_inputs os r.select (all_left P (one_or_none r.select) (one_or_none r.row) last))

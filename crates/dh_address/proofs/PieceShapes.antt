@@ -25,11 +25,11 @@ use Rattle.dh_rows.specs.Readings.{Readings, Obeys, OperationsGrow, AddsOperatio
 use Rattle.dh_rows.specs.MadeOperations.{pushed}
 use Rattle.dh_rows.proofs.Growing.{grows_on, grown_length, adds_on, pushed_adds, pushed_value}
 use Rattle.dh_address.proofs.WaySizes.{HasMaps}
-use Rattle.dh_address.specs.Pieces.{Around, new_or_none, IsTested, false_behind_all, false_word, new_takes, IsProbeValue, IsAccessMade}
+use Rattle.dh_address.specs.Pieces.{RenumberedBlock, new_or_none, IsRangeTested, false_behind_all, false_word, new_takes, IsProbeValue, IsAccessMade}
 use Rattle.dh_address.specs.Renumbered.{renumbered}
 use Rattle.dh_address.specs.declared.operands.Operand.{Operand}
 use Rattle.dh_address.specs.declared.operands.Ranged.{Ranged}
-use Rattle.dh_address.specs.WaysMade.{IsWay, reach_passed}
+use Rattle.dh_address.specs.WaysMade.{IsIndexWay, reach_passed}
 use Rattle.dh_address.proofs.WaysPut.{PutsPassed, passed_put}
 use Rattle.dh_address.proofs.AccessesPut.{IsInputOf}
 use Rattle.dh_address.proofs.FalsePut.{many_false_put}
@@ -156,7 +156,7 @@ module _ (p : PlainPlan) (maps : HasMaps p) (tables : IsProgramTable p.table) (b
   formed_at os g n o l m there = (let far = grown_length os all g in all_formed n o l (omega (arith, m, far)) there)
 
   module _ (ns : List ℕ) (ks : List Kind) (i : ℕ) (o : Operation) (old mid : List Operation) (n : ℕ) (at : IsPieceAt p maps tables bs block front begins formed ns ks i o old mid n) where
-    abbrev a : Around
+    abbrev a : RenumberedBlock
     a = around p block ns ks
 
     pub inputs_at : AllByRecursion (IsInputOf x 0 a (length old)) (operation_takes o)
@@ -179,12 +179,12 @@ module _ (p : PlainPlan) (maps : HasMaps p) (tables : IsProgramTable p.table) (b
         grows
 
     -- of a test
-    pub test_quietly : (r : Ranged) (here there : List Operation) (test : Option ℕ) → IsTested r here there test → first ≤ length here → IsTestable x 0 here r → OperationsGrow there all → GrowsQuietly here there
+    pub test_quietly : (r : Ranged) (here there : List Operation) (test : Option ℕ) → IsRangeTested r here there test → first ≤ length here → IsTestable x 0 here r → OperationsGrow there all → GrowsQuietly here there
     test_quietly r here there test tested begun testable grows = adds_quietly here there (tested_put x 0 r here there test tested begun testable).adds grows
 
     -- before the tests
     pub passed_at : (r : Reach) → ReachSuits p old_first ks r → AllByRecursion (IsInputOf x 0 a (length old)) (reach_takes r) → (passed : List Operation) (ranges : List Ranged) (indices : List Operand)
-        → IsWay passed ranges indices (reach_passed a r old) → PutsPassed x 0 old passed ranges indices
+        → IsIndexWay passed ranges indices (reach_passed a r old) → PutsPassed x 0 old passed ranges indices
     passed_at r suits taken passed ranges indices e = passed_put x 0 a p maps tables refl r suits old passed ranges indices e at.begun taken
 
     -- of what a probe gives

@@ -17,8 +17,8 @@ use Rattle.dh_address.specs.declared.literals.LiteralPlace.{LiteralPlace}
 use Rattle.dh_address.specs.declared.operands.Operand.{Operand}
 use Rattle.dh_address.specs.declared.operands.Ranged.{Ranged}
 use Rattle.dh_address.specs.LiteralPlaces.{below_size, literal_places}
-use Rattle.dh_address.specs.Pieces.{Around, IsTestBut, IsTested, both_made, IsGuarded, check_made, AreChecked, false_behind, false_behind_all, false_word, false_made, new_takes, IsProbeValue, IsProbed, IsAim, is_banked, narrowed, IsAimBut, waited, IsAimed, IsAccessMade, new_or_none}
-use Rattle.dh_address.specs.WaysMade.{IsWay, reach_passed}
+use Rattle.dh_address.specs.Pieces.{RenumberedBlock, IsTestBut, IsRangeTested, both_made, IsGuarded, check_made, AreChecked, false_behind, false_behind_all, false_word, false_made, new_takes, IsProbeValue, IsProbed, IsAim, is_banked, narrowed_bank, IsAimBut, waited, IsAimedReach, IsAccessMade, new_or_none}
+use Rattle.dh_address.specs.WaysMade.{IsIndexWay, reach_passed}
 use Rattle.dh_address.proofs.WaysPlain.{passed_plain}
 
 -- operations come behind, and of each this holds
@@ -76,7 +76,7 @@ module _ (P : Operation → Type 0) (plain : (o : Operation) → is_plain o.form
   both_by os None (Some test) = by_self os
   both_by os (Some guard) (Some test) = by_pushed os None (Compute op.Both guard test) refl
 
-  tested_by : (r : Ranged) (old new : List Operation) (test : Option ℕ) → IsTested r old new test → GrowsBy P old new
+  tested_by : (r : Ranged) (old new : List Operation) (test : Option ℕ) → IsRangeTested r old new test → GrowsBy P old new
   tested_by r old new test h = but_by (below_size r.operand.literal r.size) old new _ _ _ test h
 
   pub guarded_by : (guard : Option ℕ) (rs : List Ranged) (old new : List Operation) (on : Option ℕ) → IsGuarded guard rs old new on → GrowsBy P old new
@@ -90,7 +90,7 @@ module _ (P : Operation → Type 0) (plain : (o : Operation) → is_plain o.form
     abbrev pub AllowsCheck : Ranged → Type 0
     AllowsCheck r = range_literal r ≡ None → (test : ℕ) → P (record { guard = guard; form = Check test fault })
 
-    check_by : (r : Ranged) (old mid : List Operation) (test : Option ℕ) → AllowsCheck r → IsTested r old mid test → GrowsBy P mid (check_made mid guard fault test)
+    check_by : (r : Ranged) (old mid : List Operation) (test : Option ℕ) → AllowsCheck r → IsRangeTested r old mid test → GrowsBy P mid (check_made mid guard fault test)
     check_by r old mid test allows h = of (range_literal r) refl h
       where
         put : (test : Option ℕ) → range_literal r ≡ None → GrowsBy P mid (check_made mid guard fault test)
@@ -125,7 +125,7 @@ module _ (P : Operation → Type 0) (plain : (o : Operation) → is_plain o.form
       by_on os begun.operations _ (by_pushed os None (Constant false_word) refl)
       (by_on begun.operations all.operations _ (all_false_by begun vs) (by_pushed all.operations guard (Compute op.Either all.value all.value) refl))
 
-  pub value_by : (probed : Bool) (a : Around) (guard : Option ℕ) (r : Reach) (old new : List Operation) (n : ℕ) → IsProbeValue probed a guard r old new n → GrowsBy P old new
+  pub value_by : (probed : Bool) (a : RenumberedBlock) (guard : Option ℕ) (r : Reach) (old new : List Operation) (n : ℕ) → IsProbeValue probed a guard r old new n → GrowsBy P old new
   value_by false a guard r old new n h = by_same old new h
   value_by true a guard r old new n h = subst (λ (os : List Operation). GrowsBy P old os) (sym h.0) (false_made_by old guard (new_takes a r))
 
@@ -145,9 +145,9 @@ module _ (P : Operation → Type 0) (plain : (o : Operation) → is_plain o.form
   but_aim_by None width narrow dims indices banked old new row select h =
       let first = or_zero h.spread width h.values.row in
       let bank = or_zero first.operations width h.values.bank in
-      aim_by banked old new first (narrowed narrow bank) row select
+      aim_by banked old new first (narrowed_bank narrow bank) row select
       (by_on old h.spread first.operations (by_plain old h.spread h.grows) (zero_by h.spread width h.values.row))
-      (by_on first.operations bank.operations (narrowed narrow bank).operations (zero_by first.operations width h.values.bank) (by_pushed bank.operations None _ refl)) h.aim
+      (by_on first.operations bank.operations (narrowed_bank narrow bank).operations (zero_by first.operations width h.values.bank) (by_pushed bank.operations None _ refl)) h.aim
   but_aim_by (Some place) width narrow dims indices banked old new row select h =
       let first = constant_made old width place.row in
       aim_by banked old new first (constant_made first.operations narrow place.bank) row select (by_pushed old None _ refl) (by_pushed first.operations None _ refl) h
@@ -156,11 +156,11 @@ module _ (P : Operation → Type 0) (plain : (o : Operation) → is_plain o.form
   waited_by os None = by_self os
   waited_by os (Some v) = by_pushed os None _ refl
 
-  pub passed_by : (a : Around) (r : Reach) (old passed : List Operation) (ranges : List Ranged) (indices : List Operand) → IsWay passed ranges indices (reach_passed a r old) → GrowsBy P old passed
+  pub passed_by : (a : RenumberedBlock) (r : Reach) (old passed : List Operation) (ranges : List Ranged) (indices : List Operand) → IsIndexWay passed ranges indices (reach_passed a r old) → GrowsBy P old passed
   passed_by a r old passed ranges indices e = by_plain old passed (passed_plain a r old passed ranges indices e)
 
-  module _ (a : Around) where
-    aimed_by : (r : Reach) (row : Option ℕ) (is : List Operand) (old new : List Operation) (t : Reach) → IsAimed a r row is old new t → GrowsBy P old new
+  module _ (a : RenumberedBlock) where
+    aimed_by : (r : Reach) (row : Option ℕ) (is : List Operand) (old new : List Operation) (t : Reach) → IsAimedReach a r row is old new t → GrowsBy P old new
     aimed_by r None is old new t h =
         by_on old (waited old (new_or_none a r.select)).operations new (waited_by old (new_or_none a r.select))
         (but_aim_by (literal_places _ is 0 0) _ _ _ _ (is_banked r) _ new h.row h.select h.aim)

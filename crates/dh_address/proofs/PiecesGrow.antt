@@ -16,7 +16,7 @@ use Rattle.dh_address.specs.declared.literals.LiteralPlace.{LiteralPlace}
 use Rattle.dh_address.specs.declared.operands.Operand.{Operand}
 use Rattle.dh_address.specs.declared.operands.Ranged.{Ranged}
 use Rattle.dh_address.specs.LiteralPlaces.{below_size, literal_places}
-use Rattle.dh_address.specs.Pieces.{Around, IsTestBut, IsTested, both_made, IsGuarded, check_made, AreChecked, false_behind, false_behind_all, false_word, false_made, new_takes, IsProbeValue, IsProbed, IsAim, is_banked, narrowed, IsAimBut, waited, IsAimed, IsAccessMade, IsFormMade, IsPiece, new_or_none}
+use Rattle.dh_address.specs.Pieces.{RenumberedBlock, IsTestBut, IsRangeTested, both_made, IsGuarded, check_made, AreChecked, false_behind, false_behind_all, false_word, false_made, new_takes, IsProbeValue, IsProbed, IsAim, is_banked, narrowed_bank, IsAimBut, waited, IsAimedReach, IsAccessMade, IsFormMade, IsPiece, new_or_none}
 use Rattle.dh_address.specs.Images.{and_known, ArePieces}
 use Rattle.dh_address.proofs.WaysPlain.{passed_grows}
 
@@ -42,7 +42,7 @@ check_grows : (os : List Operation) (guard : Option ℕ) (fault : ℕ) (test : O
 check_grows os guard fault None = grows_self os
 check_grows os guard fault (Some test) = pushed_grows os guard (Check test fault)
 
-tested_grows : (r : Ranged) (old new : List Operation) (test : Option ℕ) → IsTested r old new test → OperationsGrow old new
+tested_grows : (r : Ranged) (old new : List Operation) (test : Option ℕ) → IsRangeTested r old new test → OperationsGrow old new
 tested_grows r old new test h = but_grows (below_size r.operand.literal r.size) old new _ _ _ test h
 
 pub guarded_grows : (guard : Option ℕ) (rs : List Ranged) (old new : List Operation) (on : Option ℕ) → IsGuarded guard rs old new on → OperationsGrow old new
@@ -73,7 +73,7 @@ false_made_grows os guard vs =
     grows_on os begun.operations _ (pushed_grows os None (Constant false_word))
     (grows_on begun.operations (false_behind_all begun vs).operations _ (all_false_grows begun vs) (pushed_grows (false_behind_all begun vs).operations guard _))
 
-pub value_grows : (probed : Bool) (a : Around) (guard : Option ℕ) (r : Reach) (old new : List Operation) (n : ℕ) → IsProbeValue probed a guard r old new n → OperationsGrow old new
+pub value_grows : (probed : Bool) (a : RenumberedBlock) (guard : Option ℕ) (r : Reach) (old new : List Operation) (n : ℕ) → IsProbeValue probed a guard r old new n → OperationsGrow old new
 value_grows false a guard r old new n h = grows_same old new h
 value_grows true a guard r old new n h = grows_made old new n _ (false_made_grows old guard (new_takes a r)) h
 
@@ -93,9 +93,9 @@ pub but_aim_grows : (place : Option LiteralPlace) (width narrow : ℕ) (dims : L
 but_aim_grows None width narrow dims indices banked old new row select h =
     let first = or_zero h.spread width h.values.row in
     let bank = or_zero first.operations width h.values.bank in
-    aim_grows banked old new first (narrowed narrow bank) row select
+    aim_grows banked old new first (narrowed_bank narrow bank) row select
     (grows_on old h.spread first.operations (plain_grows old h.spread h.grows) (zero_grows h.spread width h.values.row))
-    (grows_on first.operations bank.operations (narrowed narrow bank).operations (zero_grows first.operations width h.values.bank) (pushed_grows bank.operations None _)) h.aim
+    (grows_on first.operations bank.operations (narrowed_bank narrow bank).operations (zero_grows first.operations width h.values.bank) (pushed_grows bank.operations None _)) h.aim
 but_aim_grows (Some place) width narrow dims indices banked old new row select h =
     let first = constant_made old width place.row in
     aim_grows banked old new first (constant_made first.operations narrow place.bank) row select (pushed_grows old None _) (pushed_grows first.operations None _) h
@@ -104,8 +104,8 @@ pub waited_grows : (os : List Operation) (select : Option ℕ) → OperationsGro
 waited_grows os None = grows_self os
 waited_grows os (Some v) = pushed_grows os None _
 
-module _ (a : Around) where
-  pub aimed_grows : (r : Reach) (row : Option ℕ) (is : List Operand) (old new : List Operation) (t : Reach) → IsAimed a r row is old new t → OperationsGrow old new
+module _ (a : RenumberedBlock) where
+  pub aimed_grows : (r : Reach) (row : Option ℕ) (is : List Operand) (old new : List Operation) (t : Reach) → IsAimedReach a r row is old new t → OperationsGrow old new
   aimed_grows r None is old new t h =
       grows_on old (waited old (new_or_none a r.select)).operations new (waited_grows old (new_or_none a r.select))
       (but_aim_grows (literal_places _ is 0 0) _ _ _ _ (is_banked r) _ new h.row h.select h.aim)
@@ -139,7 +139,7 @@ module _ (a : Around) where
   pub piece_grows : (o : Operation) (old new : List Operation) (n : ℕ) → IsPiece a o old new n → OperationsGrow old new
   piece_grows o old new n h = form_grows (new_or_none a o.guard) o.form old new n h
 
-pub pieces_grow : (registers : List Kind) (os : List Operation) (a : Around) (old new : List Operation) (numbers : List ℕ) → ArePieces registers a os old new numbers → OperationsGrow old new
+pub pieces_grow : (registers : List Kind) (os : List Operation) (a : RenumberedBlock) (old new : List Operation) (numbers : List ℕ) → ArePieces registers a os old new numbers → OperationsGrow old new
 pieces_grow registers [] a old new numbers h = grows_same old new h.0
 pieces_grow registers (o ∷ os) a old new numbers h =
     grows_on old h.mid new (piece_grows a o old h.mid h.number h.piece)

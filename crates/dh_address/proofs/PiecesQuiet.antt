@@ -13,7 +13,7 @@ use Rattle.dh_plan.specs.declared.operations.Reach.{Reach}
 use Rattle.dh_plan.specs.PlanKinds.{form_kind}
 use Rattle.dh_rows.specs.Readings.{is_cheap, is_plain}
 use Rattle.dh_rows.specs.MadeOperations.{IsMade, pushed}
-use Rattle.dh_address.specs.Pieces.{Around, IsAimed, IsFormMade, IsPiece, new_number, new_or_none}
+use Rattle.dh_address.specs.Pieces.{RenumberedBlock, IsAimedReach, IsFormMade, IsPiece, new_number, new_or_none}
 use Rattle.dh_address.specs.declared.operands.Operand.{Operand}
 use Rattle.dh_address.specs.declared.operands.Ranged.{Ranged}
 use Rattle.dh_address.specs.Images.{and_known, ArePieces}
@@ -123,11 +123,11 @@ behind f old mid new g h n grows made to same = record {
   part = record { quiet = grows.more; main = record { guard = g; form = h } ∷ []; all = grows.each; joined = refl; image = to (record { own = record { guard = g; form = h }; only = refl; same = same }) };
 }
 
-pub row_aimed : (a : Around) (r : Reach) (row : Option ℕ) (is : List Operand) (old new : List Operation) (t : Reach) → IsAimed a r row is old new t → IsRowOf r t
+pub row_aimed : (a : RenumberedBlock) (r : Reach) (row : Option ℕ) (is : List Operand) (old new : List Operation) (t : Reach) → IsAimedReach a r row is old new t → IsRowOf r t
 row_aimed a r None is old new t h = subst (λ (u : Reach). IsRowOf r u) (sym h.reach) (record { access = refl; memory = refl; banks = refl; row = h.row; in_row = refl })
 row_aimed a r (Some row) is old new t h = subst (λ (u : Reach). IsRowOf r u) (sym h.1) (record { access = refl; memory = refl; banks = refl; row = new_number a row; in_row = refl })
 
-module _ (a : Around) where
+module _ (a : RenumberedBlock) where
   form_part : (g : Option ℕ) (f : OperationForm) (old new : List Operation) (n : ℕ) → IsFormMade a g f old new n → PutsPart f old new
   form_part g (Constant word) old new n h = alone (Constant word) old new g _ n h (λ m. m) refl
   form_part g (Old register) old new n h = alone (Old register) old new g _ n h (λ m. m) refl
@@ -167,7 +167,7 @@ pub record PutsParts (os old new : List Operation) : Type 0 where
   pub appended : new ≡ old ++ more
   pub parts : AreParts os more
 
-pub pieces_parts : (registers : List Kind) (os : List Operation) (a : Around) (old new : List Operation) (numbers : List ℕ) → ArePieces registers a os old new numbers → PutsParts os old new
+pub pieces_parts : (registers : List Kind) (os : List Operation) (a : RenumberedBlock) (old new : List Operation) (numbers : List ℕ) → ArePieces registers a os old new numbers → PutsParts os old new
 pieces_parts registers [] a old new numbers h = record { more = []; appended = h.0 ∙ sym (append-nil old); parts = refl }
 pieces_parts registers (o ∷ os) a old new numbers h =
     let one = piece_part a o old h.mid h.number h.piece in

@@ -11,9 +11,9 @@ use Rattle.dh_plan.specs.declared.operations.Operation.{Operation}
 use Rattle.dh_plan.specs.declared.operations.PlanBlock.{PlanBlock}
 use Rattle.dh_plan.specs.PlainPlans.{PlainPlan, first_in, operations_in, operations_before, block_operations}
 use Rattle.dh_rows.specs.Readings.{OperationsGrow}
-use Rattle.dh_address.specs.Pieces.{Around, any_takes_probe}
+use Rattle.dh_address.specs.Pieces.{RenumberedBlock, any_takes_probe}
 use Rattle.dh_address.specs.Images.{ArePieces, around_block, operations_until, IsBlockImage}
-use Rattle.dh_address.specs.Cuts.{AreStarts, IsCut}
+use Rattle.dh_address.specs.Cuts.{AreStarts, IsCutIntoBlocks}
 use Rattle.dh_address.specs.SeenBlocks.{HasPieces}
 use Rattle.dh_address.specs.SeenPlan.{AreImages}
 use Rattle.dh_address.proofs.BlocksAppended.{until_before, until_more, until_past, no_starts, starts_more}
@@ -66,7 +66,7 @@ module _ (p : PlainPlan) where
   }
 
   -- what is known as a block begins, where its operations are these
-  abbrev begun_with : (os : List Operation) → (first : ℕ) → (probed : Bool) → Around
+  abbrev begun_with : (os : List Operation) → (first : ℕ) → (probed : Bool) → RenumberedBlock
   begun_with os first probed = record { table = p.table; views = p.views; operations = os; first = first; probed = probed; numbers = []; kinds = [] }
 
   around_is : (i : ℕ) (os : List Operation) (first : ℕ) (probed : Bool) → os ≡ operations_in p i → first ≡ first_in p i → probed ≡ any_takes_probe os first → begun_with os first probed ≡ around_block p i
@@ -102,7 +102,7 @@ module _ (p : PlainPlan) where
     few = let before = h.few in omega (arith, before, next_is, small);
   }
     where
-      a : Around
+      a : RenumberedBlock
       a = begun_with b.operations first probed
 
       grows : OperationsGrow list new
@@ -124,7 +124,7 @@ module _ (p : PlainPlan) where
       operations_are = sym (ap (λ (o : Option PlanBlock). block_operations o) (slice_get-get_or p.blocks i b within ∙ ap (λ (x : PlanBlock). Some x) (sym is)))
 
       pieces : ArePieces p.registers (around_block p i) (operations_in p i) list new put.numbers
-      pieces = subst (λ (x : Around). ArePieces p.registers x (operations_in p i) list new put.numbers) (around_is i b.operations first probed operations_are h.first_is taken)
+      pieces = subst (λ (x : RenumberedBlock). ArePieces p.registers x (operations_in p i) list new put.numbers) (around_is i b.operations first probed operations_are h.first_is taken)
           (subst (λ (os : List Operation). ArePieces p.registers a os list new put.numbers) operations_are put.pieces)
 
       image : (block : ℕ) → (block < i) ⊎ (i ≤ block) → block < i + 1 → IsBlockImage p (h.blocks ++ c ∷ []) block
@@ -176,7 +176,7 @@ module _ (p : PlainPlan) where
       (ap (λ (l : List Operation). first + length l) own) (subst (λ (l : List Operation). length l ≤ 2 ^ 64) own small))
 
   pub laid_end : (items : List PlanBlock) (i : ℕ) (list os : List Operation) (starts found_starts : List ℕ) (first : ℕ) (found : List PlanBlock) → items ≡ p.blocks → length items ≤ i → i ≤ length items
-      → Laid i list starts first → os ≡ list → found_starts ≡ starts → IsCut os found_starts found → AreImages p found
+      → Laid i list starts first → os ≡ list → found_starts ≡ starts → IsCutIntoBlocks os found_starts found → AreImages p found
   laid_end items i list os starts found_starts first found all l m h os_is starts_is cut =
       all_laid i list starts first found (subst (λ (bs : List PlanBlock). length bs ≤ i) all l) (subst (λ (bs : List PlanBlock). i ≤ length bs) all m) h
-      (subst (λ (ns : List ℕ). IsCut list ns found) starts_is (subst (λ (o : List Operation). IsCut o found_starts found) os_is cut))
+      (subst (λ (ns : List ℕ). IsCutIntoBlocks list ns found) starts_is (subst (λ (o : List Operation). IsCutIntoBlocks o found_starts found) os_is cut))

@@ -17,7 +17,7 @@ use Rattle.dh_address.specs.declared.operands.Operand.{Operand}
 use Rattle.dh_address.specs.declared.operands.Ranged.{Ranged}
 use Rattle.dh_address.specs.LiteralPlaces.{below_size}
 use Rattle.dh_address.proofs.ImageReadings.{at_last}
-use Rattle.dh_address.specs.Pieces.{IsTestBut, IsTested, both_made, IsGuarded, check_made, AreChecked}
+use Rattle.dh_address.specs.Pieces.{IsTestBut, IsRangeTested, both_made, IsGuarded, check_made, AreChecked}
 
 -- Lists grow.
 
@@ -102,7 +102,7 @@ module _ (x : Readings) (clock : ℕ) where
   testable_later old new g (r ∷ rs) h =
       (there_later old new g r.operand h.0, testable_later old new g rs h.1)
 
-  pub tested_put : (r : Ranged) (old new : List Operation) (test : Option ℕ) → IsTested r old new test → x.first ≤ length old → IsTestable old r → PutsMaybe old new kind.Bool test
+  pub tested_put : (r : Ranged) (old new : List Operation) (test : Option ℕ) → IsRangeTested r old new test → x.first ≤ length old → IsTestable old r → PutsMaybe old new kind.Bool test
   tested_put r old new test h begun t = test_put (below_size r.operand.literal r.size) old new _ _ _ test h begun t.sized t.stands
 
   pub guards_put : (guard : Option ℕ) (rs : List Ranged) (old new : List Operation) (on : Option ℕ) → IsGuarded guard rs old new on
@@ -153,7 +153,7 @@ module _ (x : Readings) where
   test_holds (Some n) old new k value size test h begun obeys sized word same lit =
       subst (λ (t : Option ℕ). HoldsOrNone x t (is_below_size (value_of (x.word value)) size)) (sym h.1) (lit n refl)
 
-  pub tested_holds : (r : Ranged) (old new : List Operation) (test : Option ℕ) → IsTested r old new test → x.first ≤ length old → Obeys x new → IsShown r
+  pub tested_holds : (r : Ranged) (old new : List Operation) (test : Option ℕ) → IsRangeTested r old new test → x.first ≤ length old → Obeys x new → IsShown r
       → HoldsOrNone x test (is_below_size (value_of (x.word r.operand.value)) r.size)
   tested_holds r old new test h begun obeys shown =
       test_holds (below_size r.operand.literal r.size) old new _ _ _ test h begun obeys shown.sized shown.word shown.kind_is shown.literal

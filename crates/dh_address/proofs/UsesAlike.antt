@@ -23,7 +23,7 @@ use Rattle.dh_plan.specs.SoundRuns.{AreInKinds}
 use Rattle.dh_rows.specs.Readings.{is_plain}
 use Rattle.dh_address.proofs.WaySizes.{HasMaps}
 use Rattle.dh_address.specs.declared.operands.Operand.{Operand}
-use Rattle.dh_address.specs.Pieces.{Around, IsAimed}
+use Rattle.dh_address.specs.Pieces.{RenumberedBlock, IsAimedReach}
 use Rattle.dh_address.proofs.AccessesLead.{both_true}
 use Rattle.dh_address.proofs.GoodPieces.{AreGoodPieces, StandsInPiece}
 use Rattle.dh_address.proofs.ImageReadings.{FormedBelow}
@@ -53,16 +53,16 @@ no_use u v t same none e = let two : Some t ≡ None = sym e ∙ (ap (λ (w : Op
 abbrev pub IsSameAccess : (new old : Reach) → Type 0
 IsSameAccess t r = (t.access ≡ r.access) × ((t.memory ≡ r.memory) × (t.banks ≡ r.banks))
 
-aimed_same : (a : Around) (r : Reach) (row : Option ℕ) (is : List Operand) (old last : List Operation) (t : Reach) → IsAimed a r row is old last t → IsSameAccess t r
+aimed_same : (a : RenumberedBlock) (r : Reach) (row : Option ℕ) (is : List Operand) (old last : List Operation) (t : Reach) → IsAimedReach a r row is old last t → IsSameAccess t r
 aimed_same a r None is old last t h = (ap (λ (u : Reach). u.access) h.reach, (ap (λ (u : Reach). u.memory) h.reach, ap (λ (u : Reach). u.banks) h.reach))
 aimed_same a r (Some row) is old last t h = (ap (λ (u : Reach). u.access) h.1, (ap (λ (u : Reach). u.memory) h.1, ap (λ (u : Reach). u.banks) h.1))
 
-aimed_row : (a : Around) (r : Reach) (row : Option ℕ) (is : List Operand) (old last : List Operation) (t : Reach) → IsAimed a r row is old last t → (n : ℕ) × (t.row ≡ Some n)
+aimed_row : (a : RenumberedBlock) (r : Reach) (row : Option ℕ) (is : List Operand) (old last : List Operation) (t : Reach) → IsAimedReach a r row is old last t → (n : ℕ) × (t.row ≡ Some n)
 aimed_row a r None is old last t h = (h.row, ap (λ (u : Reach). u.row) h.reach)
 aimed_row a r (Some row) is old last t h = (_, ap (λ (u : Reach). u.row) h.1)
 
 -- An old read or write.
-pub record IsOldUse (a : Around) (o : Operation) (old all : List Operation) (number place : ℕ) (u : Operation) (t : Reach) : Type 0 where
+pub record IsOldUse (a : RenumberedBlock) (o : Operation) (old all : List Operation) (number place : ℕ) (u : Operation) (t : Reach) : Type 0 where
   pub reach : Reach
   pub uses : use_in o.form ≡ Some reach
   pub own : place ≡ number
@@ -70,7 +70,7 @@ pub record IsOldUse (a : Around) (o : Operation) (old all : List Operation) (num
   pub same : IsSameAccess t reach
   pub writes : writes_memory u.form → writes_memory o.form
 
-module _ (a : Around) (o : Operation) (old all : List Operation) (number place : ℕ) (u : Operation) (t : Reach) (uses : use_in u.form ≡ Some t) where
+module _ (a : RenumberedBlock) (o : Operation) (old all : List Operation) (number place : ℕ) (u : Operation) (t : Reach) (uses : use_in u.form ≡ Some t) where
   same_access : (r : Reach) → IsUseOf a o.guard r old all u t → IsSameAccess t r
   same_access r made = aimed_same a r r.row made.access.indices made.access.guarded made.last t made.access.aims
 
@@ -122,7 +122,7 @@ quiet_addressed (Set register value) p = tt
 form_addressed : (f g : OperationForm) → f ≡ g → FormAddressed g → FormAddressed f
 form_addressed f g e h = subst FormAddressed (sym e) h
 
-module _ (a : Around) (o : Operation) (old all : List Operation) (number place : ℕ) (u : Operation) where
+module _ (a : RenumberedBlock) (o : Operation) (old all : List Operation) (number place : ℕ) (u : Operation) where
   use_row : (r v : Reach) → IsUseOf a o.guard r old all u v → (n : ℕ) × (v.row ≡ Some n)
   use_row r v made = aimed_row a r r.row made.access.indices made.access.guarded made.last v made.access.aims
 
@@ -246,7 +246,7 @@ module _ (p : PlainPlan) (maps : HasMaps p) (tables : IsProgramTable p.table) (b
     abbrev st : StandsInPiece p maps tables bs block front begins formed Words 0 (length front + j)
     st = stands_at p maps tables bs block front begins formed all_formed Words h j u e
 
-    abbrev a : Around
+    abbrev a : RenumberedBlock
     a = around p block st.of.numbers st.of.kinds
 
     old_use : IsOldUse a st.operation st.of.old all st.of.number (length front + j) u v

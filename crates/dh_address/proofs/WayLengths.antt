@@ -16,8 +16,8 @@ use Rattle.dh_plan.specs.PlainPlans.{PlainPlan}
 use Rattle.dh_plan.specs.PlanKinds.{AreSteps, NamesElement, ReachSuits, StepFits}
 use Rattle.dh_address.specs.declared.operands.Operand.{Operand}
 use Rattle.dh_address.specs.declared.operands.Ranged.{Ranged}
-use Rattle.dh_address.specs.Arounds.{Around}
-use Rattle.dh_address.specs.WaysMade.{Way, way, IsWay, operand_of, moved_one, moved_all, ones, split_made, dealt_way, passed_by, passed_if, step_passed, steps_passed, way_begun, passed_to, reach_passed}
+use Rattle.dh_address.specs.Arounds.{RenumberedBlock}
+use Rattle.dh_address.specs.WaysMade.{IndexWay, way, IsIndexWay, operand_of, moved_one, moved_all, unit_factors, split_made, dealt_way, passed_by, passed_if, step_passed, steps_passed, way_begun, passed_to, reach_passed}
 use Rattle.dh_address.proofs.AccessesPut.{HasMany}
 use Rattle.dh_address.proofs.WaySizes.{HasMaps, one_of}
 
@@ -26,10 +26,10 @@ mapped_long f [] = refl
 mapped_long f (x ∷ xs) = ap suc (mapped_long f xs)
 
 -- one more index
-moved_one_long : (size factor : ℕ) (e i : Operand) (w : Way) → length (moved_one size factor e i w).indices ≡ length w.indices + 1
+moved_one_long : (size factor : ℕ) (e i : Operand) (w : IndexWay) → length (moved_one size factor e i w).indices ≡ length w.indices + 1
 moved_one_long size factor e i w = length-append w.indices _
 
-moved_all_long : (ds : List Dim) (ks : List ℕ) (es is : List Operand) (w : Way) → length ks ≡ length ds → length es ≡ length ds → length is ≡ length ds
+moved_all_long : (ds : List Dim) (ks : List ℕ) (es is : List Operand) (w : IndexWay) → length ks ≡ length ds → length es ≡ length ds → length is ≡ length ds
     → length (moved_all ds ks es is w).indices ≡ length w.indices + length ds
 moved_all_long [] ks es is w k e i = omega arith
 moved_all_long (d ∷ ds) [] es is w k e i = absurd (omega (arith, k))
@@ -73,12 +73,12 @@ sort_long Split v es is os ranges h e i = split_long v.shape.dims v.parent.dims 
 sort_long Suffix v es is os ranges h e i =
     let l = dims_long Suffix v.shape.dims v.parent.dims v.by h in moved_all_long v.parent.dims v.by es is (way os ranges []) l.1 e (i ∙ l.0) ∙ omega arith
 sort_long Shift v es is os ranges h e i =
-    moved_all_long v.parent.dims (ones v.parent.dims) es is (way os ranges []) (mapped_long (λ d. 1) v.parent.dims) e (i ∙ ap (λ (ds : List Dim). length ds) h.0) ∙ omega arith
+    moved_all_long v.parent.dims (unit_factors v.parent.dims) es is (way os ranges []) (mapped_long (λ d. 1) v.parent.dims) e (i ∙ ap (λ (ds : List Dim). length ds) h.0) ∙ omega arith
 
 -- Ways.
 
-module _ (a : Around) (p : PlainPlan) (maps : HasMaps p) (views : a.views ≡ p.views) where
-  steps_long : (memory : ℕ) (steps : List ReachStep) (dims : List Dim) (w : Way) → AreSteps p a.first a.kinds memory steps dims → length w.indices ≡ length dims
+module _ (a : RenumberedBlock) (p : PlainPlan) (maps : HasMaps p) (views : a.views ≡ p.views) where
+  steps_long : (memory : ℕ) (steps : List ReachStep) (dims : List Dim) (w : IndexWay) → AreSteps p a.first a.kinds memory steps dims → length w.indices ≡ length dims
       → length (steps_passed a steps w).indices ≡ length (dims_at p.table memory)
   steps_long memory [] dims w s l = l ∙ ap (λ (ds : List Dim). length ds) s
   steps_long memory (t ∷ ts) dims w s l =
@@ -102,6 +102,6 @@ module _ (a : Around) (p : PlainPlan) (maps : HasMaps p) (views : a.views ≡ p.
   to_long r (Some row) old element = tt
 
   -- of what was seen as the way of an access
-  pub passed_long : (r : Reach) → ReachSuits p a.first a.kinds r → (old passed : List Operation) (ranges : List Ranged) (indices : List Operand) → IsWay passed ranges indices (reach_passed a r old)
+  pub passed_long : (r : Reach) → ReachSuits p a.first a.kinds r → (old passed : List Operation) (ranges : List Ranged) (indices : List Operand) → IsIndexWay passed ranges indices (reach_passed a r old)
       → HasMany p.table r r.row indices
   passed_long r suits old passed ranges indices e = subst (λ (is : List Operand). HasMany p.table r r.row is) (sym e.1.1) (to_long r r.row old suits.element)

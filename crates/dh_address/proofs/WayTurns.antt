@@ -10,24 +10,24 @@ use Rattle.dh_tree.specs.declared.tables.Dim.{Dim}
 use Rattle.dh_address.specs.declared.operands.Operand.{Operand}
 use Rattle.dh_address.specs.declared.operands.Ranged.{Ranged}
 use Rattle.dh_plan.specs.declared.operations.Operation.{Operation}
-use Rattle.dh_address.specs.WaysMade.{Way, way, IsWay, moved_all, ones, ranges_by}
+use Rattle.dh_address.specs.WaysMade.{IndexWay, way, IsIndexWay, moved_all, unit_factors, ranges_by}
 
-without_factors : (ds : List Dim) (es is : List Operand) (w : Way) → moved_all ds [] es is w ≡ w
+without_factors : (ds : List Dim) (es is : List Operand) (w : IndexWay) → moved_all ds [] es is w ≡ w
 without_factors [] es is w = refl
 without_factors (d ∷ ds) es is w = refl
 
-without_offsets : (ds : List Dim) (ks : List ℕ) (is : List Operand) (w : Way) → moved_all ds ks [] is w ≡ w
+without_offsets : (ds : List Dim) (ks : List ℕ) (is : List Operand) (w : IndexWay) → moved_all ds ks [] is w ≡ w
 without_offsets [] ks is w = refl
 without_offsets (d ∷ ds) [] is w = refl
 without_offsets (d ∷ ds) (k ∷ ks) is w = refl
 
-without_indices : (ds : List Dim) (ks : List ℕ) (es : List Operand) (w : Way) → moved_all ds ks es [] w ≡ w
+without_indices : (ds : List Dim) (ks : List ℕ) (es : List Operand) (w : IndexWay) → moved_all ds ks es [] w ≡ w
 without_indices [] ks es w = refl
 without_indices (d ∷ ds) [] es w = refl
 without_indices (d ∷ ds) (k ∷ ks) [] w = refl
 without_indices (d ∷ ds) (k ∷ ks) (e ∷ es) w = refl
 
-pub moved_end : (ds : List Dim) (ks : List ℕ) (es is : List Operand) (n : ℕ) (w : Way) → min (min (min (length ds) (length ks)) (length es)) (length is) ≤ n
+pub moved_end : (ds : List Dim) (ks : List ℕ) (es is : List Operand) (n : ℕ) (w : IndexWay) → min (min (min (length ds) (length ks)) (length es)) (length is) ≤ n
     → moved_all (drop n ds) (drop n ks) (drop n es) (drop n is) w ≡ w
 moved_end [] ks es is zero w l = refl
 moved_end [] ks es is (suc n) w l = refl
@@ -40,9 +40,9 @@ moved_end (d ∷ ds) (k ∷ ks) (e ∷ es) [] (suc n) w l = without_indices (dro
 moved_end (d ∷ ds) (k ∷ ks) (e ∷ es) (i ∷ is) zero w l = absurd (omega (arith, l))
 moved_end (d ∷ ds) (k ∷ ks) (e ∷ es) (i ∷ is) (suc n) w l = moved_end ds ks es is n w (omega (arith, l))
 
-pub moved_ended : (ds : List Dim) (ks : List ℕ) (es is : List Operand) (n : ℕ) (os : List Operation) (ranges : List Ranged) (moved : List Operand) (whole : Way)
-    → min (min (min (length ds) (length ks)) (length es)) (length is) ≤ n → moved_all (drop n ds) (drop n ks) (drop n es) (drop n is) (way os ranges moved) ≡ whole → IsWay os ranges moved whole
-moved_ended ds ks es is n os ranges moved whole l so = (ap (λ (w : Way). w.operations) same, (ap (λ (w : Way). w.ranges) same, ap (λ (w : Way). w.indices) same))
+pub moved_ended : (ds : List Dim) (ks : List ℕ) (es is : List Operand) (n : ℕ) (os : List Operation) (ranges : List Ranged) (moved : List Operand) (whole : IndexWay)
+    → min (min (min (length ds) (length ks)) (length es)) (length is) ≤ n → moved_all (drop n ds) (drop n ks) (drop n es) (drop n is) (way os ranges moved) ≡ whole → IsIndexWay os ranges moved whole
+moved_ended ds ks es is n os ranges moved whole l so = (ap (λ (w : IndexWay). w.operations) same, (ap (λ (w : IndexWay). w.ranges) same, ap (λ (w : IndexWay). w.indices) same))
   where
     same : way os ranges moved ≡ whole
     same = sym (moved_end ds ks es is n (way os ranges moved) l) ∙ so
@@ -81,10 +81,10 @@ offsets_turn f steps i step so_far next whole within is so =
 abbrev pub no_dim : Dim
 no_dim = record { size = 0; banks = 0 }
 
-pub ones_turn : (ds : List Dim) (i : ℕ) (so_far next whole : List ℕ) → i < length ds → next ≡ so_far ++ 1 ∷ [] → so_far ++ ones (drop i ds) ≡ whole → next ++ ones (drop (i + 1) ds) ≡ whole
+pub ones_turn : (ds : List Dim) (i : ℕ) (so_far next whole : List ℕ) → i < length ds → next ≡ so_far ++ 1 ∷ [] → so_far ++ unit_factors (drop i ds) ≡ whole → next ++ unit_factors (drop (i + 1) ds) ≡ whole
 ones_turn ds i so_far next whole within is so =
-    ap (λ (l : List ℕ). l ++ ones (drop (i + 1) ds)) is
-    ∙ (append_assoc so_far (1 ∷ []) (ones (drop (i + 1) ds)) ∙ (ap (λ (l : List ℕ). so_far ++ l) (sym more) ∙ so))
+    ap (λ (l : List ℕ). l ++ unit_factors (drop (i + 1) ds)) is
+    ∙ (append_assoc so_far (1 ∷ []) (unit_factors (drop (i + 1) ds)) ∙ (ap (λ (l : List ℕ). so_far ++ l) (sym more) ∙ so))
   where
-    more : ones (drop i ds) ≡ 1 ∷ ones (drop (i + 1) ds)
-    more = ap ones (drop-cons ds i no_dim within ∙ ap (λ n. slice_index_or ds i no_dim ∷ drop n ds) (sym (add-one i)))
+    more : unit_factors (drop i ds) ≡ 1 ∷ unit_factors (drop (i + 1) ds)
+    more = ap unit_factors (drop-cons ds i no_dim within ∙ ap (λ n. slice_index_or ds i no_dim ∷ drop n ds) (sym (add-one i)))

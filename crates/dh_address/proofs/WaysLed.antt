@@ -22,8 +22,8 @@ use Rattle.dh_rows.specs.RowsShown.{is_small}
 use Rattle.dh_rows.proofs.Growing.{plain_grows, obeys_plain}
 use Rattle.dh_address.specs.declared.operands.Operand.{Operand}
 use Rattle.dh_address.specs.declared.operands.Ranged.{Ranged}
-use Rattle.dh_address.specs.Arounds.{Around}
-use Rattle.dh_address.specs.WaysMade.{Way, way, Placed, moved_operand, operand_of, ranges_by, offset_bounded, moved_one, moved_all, maybe_range, ones, split_made, dealt_way, passed_by, passed_if, step_passed, steps_passed, with_ranges}
+use Rattle.dh_address.specs.Arounds.{RenumberedBlock}
+use Rattle.dh_address.specs.WaysMade.{IndexWay, way, PlacedOperand, moved_operand, operand_of, ranges_by, offset_bounded, moved_one, moved_all, maybe_range, unit_factors, split_made, dealt_way, passed_by, passed_if, step_passed, steps_passed, with_ranges}
 use Rattle.dh_address.proofs.AccessesLead.{both_true}
 use Rattle.dh_address.proofs.AccessesPut.{all_join}
 use Rattle.dh_address.proofs.TestedRanges.{all_in, begun_later}
@@ -74,21 +74,21 @@ suffix_same (v ∷ vs) [] ks h = absurd h
 suffix_same (v ∷ vs) (p ∷ ps) [] h = absurd h
 suffix_same (v ∷ vs) (p ∷ ps) (k ∷ ks) h = let one = h.0.0 in let more = suffix_same vs ps ks h.1 in cc
 
-pub ones_factors : (ds : List Dim) → AreFactors (ones ds)
+pub ones_factors : (ds : List Dim) → AreFactors (unit_factors ds)
 ones_factors [] = tt
 ones_factors (d ∷ ds) = (omega arith, ones_factors ds)
 
-pub ones_sums : (ds : List Dim) (es is : List ℤ) → length es ≡ length ds → sums (multiples (ones ds) es) is ≡ sums es is
+pub ones_sums : (ds : List Dim) (es is : List ℤ) → length es ≡ length ds → sums (multiples (unit_factors ds) es) is ≡ sums es is
 ones_sums [] [] is l = refl
 ones_sums [] (e ∷ es) is l = absurd (omega (arith, l))
 ones_sums (d ∷ ds) [] is l = absurd (omega (arith, l))
 ones_sums (d ∷ ds) (e ∷ es) [] l = refl
 ones_sums (d ∷ ds) (e ∷ es) (i ∷ is) l =
-    ap (λ (z : ℤ). (z +ℤ i) ∷ sums (multiples (ones ds) es) is) (one_time e) ∙ ap (λ (zs : List ℤ). (e +ℤ i) ∷ zs) (ones_sums ds es is (omega (arith, l)))
+    ap (λ (z : ℤ). (z +ℤ i) ∷ sums (multiples (unit_factors ds) es) is) (one_time e) ∙ ap (λ (zs : List ℤ). (e +ℤ i) ∷ zs) (ones_sums ds es is (omega (arith, l)))
 
 module _ (x : Readings) where
   -- Of a view that moves: what is to be in range of its offsets, and the indices that come behind others.
-  pub record ShowsAll (ds : List Dim) (is : List Operand) (iz zs : List ℤ) (w after : Way) : Type 0 where
+  pub record ShowsAll (ds : List Dim) (is : List Operand) (iz zs : List ℤ) (w after : IndexWay) : Type 0 where
     pub ranges : List Ranged
     pub more : List Operand
     pub ranges_are : after.ranges ≡ w.ranges ++ ranges
@@ -100,7 +100,7 @@ module _ (x : Readings) where
     pub outside : AreFor x ds is iz → is_inside ds iz ≡ true → all_in x ranges ≡ false → is_inside ds zs ≡ false
 
   -- one dimension more, before the others
-  one_more : (d : Dim) (ds : List Dim) (k : ℕ) (i : Operand) (is : List Operand) (y z : ℤ) (iz zs : List ℤ) → 1 ≤ k → (here : List Ranged) (m : Placed) (w next after : Way) → next.ranges ≡ w.ranges ++ here
+  one_more : (d : Dim) (ds : List Dim) (k : ℕ) (i : Operand) (is : List Operand) (y z : ℤ) (iz zs : List ℤ) → 1 ≤ k → (here : List Ranged) (m : PlacedOperand) (w next after : IndexWay) → next.ranges ≡ w.ranges ++ here
       → next.indices ≡ w.indices ++ m.operand ∷ [] → ShowsRange x here (is_small y ((d.size - 1) / k)) → ShowsMoved x d.size k m y z i → ShowsAll ds is iz zs next after
       → ShowsAll (d ∷ ds) (i ∷ is) (z ∷ iz) (((pos k *ℤ y) +ℤ z) ∷ zs) w after
   one_more d ds k i is y z iz zs some here m w next after ranges_next indices_next range index rest = record {
@@ -123,7 +123,7 @@ module _ (x : Readings) where
       tested : all_in x (here ++ rest.ranges) ≡ (is_small y ((d.size - 1) / k) && all_in x rest.ranges)
       tested = all_in_join x here rest.ranges ∙ ap (λ (b : Bool). b && all_in x rest.ranges) range.test
 
-  pub moved_all_shown : (ds : List Dim) (ks : List ℕ) (es is : List Operand) (ez iz : List ℤ) (w : Way) → AreFew ds → AreFactors ks → length ks ≡ length ds → length es ≡ length ds → length is ≡ length ds
+  pub moved_all_shown : (ds : List Dim) (ks : List ℕ) (es is : List Operand) (ez iz : List ℤ) (w : IndexWay) → AreFew ds → AreFactors ks → length ks ≡ length ds → length es ≡ length ds → length is ≡ length ds
       → length iz ≡ length ds → AreSeen x es → AreSeen x is → AreValues x es ez → x.first ≤ length w.operations → Obeys x (moved_all ds ks es is w).operations
       → ShowsAll ds is iz (sums (multiples ks ez) iz) w (moved_all ds ks es is w)
   moved_all_shown [] [] [] [] [] [] w few some kl el il zl es_seen is_seen values begun obeys = record {
@@ -159,7 +159,7 @@ module _ (x : Readings) where
 
   -- Of any view.
 
-  pub record ShowsView (v : ViewMap) (is : List Operand) (iz zs : List ℤ) (tested : List Ranged) (after : Way) : Type 0 where
+  pub record ShowsView (v : ViewMap) (is : List Operand) (iz zs : List ℤ) (tested : List Ranged) (after : IndexWay) : Type 0 where
     pub ranges : List Ranged
     pub ranges_are : after.ranges ≡ tested ++ ranges
     pub ranges_seen : RangesSeen x ranges
@@ -178,7 +178,7 @@ module _ (x : Readings) where
   shrunk_for (v ∷ vs) (p ∷ ps) (k ∷ ks) (i ∷ is) [] h f = absurd f
   shrunk_for (v ∷ vs) (p ∷ ps) (k ∷ ks) (i ∷ is) (z ∷ iz) h f = (subst (λ n. StandsFor x n i z) h.0.0 f.0, shrunk_for vs ps ks is iz h.1 f.1)
 
-  no_more : (v : ViewMap) (is : List Operand) (iz zs : List ℤ) (tested : List Ranged) (after : Way) → after.ranges ≡ tested → AreSeen x after.indices → length zs ≡ length v.parent.dims
+  no_more : (v : ViewMap) (is : List Operand) (iz zs : List ℤ) (tested : List Ranged) (after : IndexWay) → after.ranges ≡ tested → AreSeen x after.indices → length zs ≡ length v.parent.dims
       → (AreFor x v.shape.dims is iz → is_inside v.shape.dims iz ≡ true → AreFor x v.parent.dims after.indices zs) → ShowsView v is iz zs tested after
   no_more v is iz zs tested after same seen long so = record {
     ranges = [];
@@ -190,7 +190,7 @@ module _ (x : Readings) where
     outside = λ f i a. absurd (cc);
   }
 
-  moving : (v : ViewMap) (is : List Operand) (iz zs : List ℤ) (tested : List Ranged) (os : List Operation) (after : Way) → v.shape.dims ≡ v.parent.dims → ShowsAll v.parent.dims is iz zs (way os tested []) after
+  moving : (v : ViewMap) (is : List Operand) (iz zs : List ℤ) (tested : List Ranged) (os : List Operation) (after : IndexWay) → v.shape.dims ≡ v.parent.dims → ShowsAll v.parent.dims is iz zs (way os tested []) after
       → ShowsView v is iz zs tested after
   moving v is iz zs tested os after same m = record {
     ranges = m.ranges;
@@ -250,8 +250,8 @@ module _ (x : Readings) where
       moving v is iz _ tested os _ same m
   sort_shown Shift v es is ez iz os tested h own few el il zl es_seen is_seen values begun obeys =
       let long : length v.shape.dims ≡ length v.parent.dims = ap (λ (ds : List Dim). length ds) h.0 in
-      let m = moved_all_shown v.parent.dims (ones v.parent.dims) es is ez iz (way os tested []) few (ones_factors v.parent.dims) (mapped_long (λ d. 1) v.parent.dims) el (il ∙ long) (zl ∙ long) es_seen is_seen values begun obeys in
-      subst (λ (zs : List ℤ). ShowsView v is iz zs tested (moved_all v.parent.dims (ones v.parent.dims) es is (way os tested []))) (ones_sums v.parent.dims ez iz (sym (values_long es ez values) ∙ el))
+      let m = moved_all_shown v.parent.dims (unit_factors v.parent.dims) es is ez iz (way os tested []) few (ones_factors v.parent.dims) (mapped_long (λ d. 1) v.parent.dims) el (il ∙ long) (zl ∙ long) es_seen is_seen values begun obeys in
+      subst (λ (zs : List ℤ). ShowsView v is iz zs tested (moved_all v.parent.dims (unit_factors v.parent.dims) es is (way os tested []))) (ones_sums v.parent.dims ez iz (sym (values_long es ez values) ∙ el))
       (moving v is iz _ tested os _ h.0 m)
     where
       values_long : (os : List Operand) (zs : List ℤ) → AreValues x os zs → length os ≡ length zs
@@ -260,7 +260,7 @@ module _ (x : Readings) where
       values_long (o ∷ os) [] h = absurd h
       values_long (o ∷ os) (z ∷ zs) h = ap suc (values_long os zs h.1)
 
-  pub view_shown : (v : ViewMap) (es : List Operand) (ez iz : List ℤ) (w : Way) → IsViewMap v → AreFew v.shape.dims → AreFew v.parent.dims → length es ≡ offsets_needed v.sort v.parent.dims
+  pub view_shown : (v : ViewMap) (es : List Operand) (ez iz : List ℤ) (w : IndexWay) → IsViewMap v → AreFew v.shape.dims → AreFew v.parent.dims → length es ≡ offsets_needed v.sort v.parent.dims
       → length w.indices ≡ length v.shape.dims → length iz ≡ length v.shape.dims → AreSeen x es → AreSeen x w.indices → AreValues x es ez → x.first ≤ length w.operations
       → Obeys x (passed_if (Some v) es w).operations
       → ShowsView v w.indices iz (named_by v ez iz) (w.ranges ++ ranges_by v.shape.dims w.indices) (passed_if (Some v) es w)
@@ -270,7 +270,7 @@ module _ (x : Readings) where
   -- Ways.
 
   -- a way so far, whose indices stand for these numbers where all is in range
-  pub record IsWayFor (dims : List Dim) (zs : List ℤ) (w : Way) : Type 0 where
+  pub record IsWayFor (dims : List Dim) (zs : List ℤ) (w : IndexWay) : Type 0 where
     pub begun : x.first ≤ length w.operations
     pub ranges : RangesSeen x w.ranges
     pub indices : AreSeen x w.indices
@@ -284,13 +284,13 @@ module _ (x : Readings) where
   is_found dims (Some zs) = is_inside dims zs
 
   -- where all leads: w is the way so far, and `last` the whole
-  pub record LeadsTo (dims : List Dim) (so_far : Bool) (last : Way) (found : Option (List ℤ)) : Type 0 where
+  pub record LeadsTo (dims : List Dim) (so_far : Bool) (last : IndexWay) (found : Option (List ℤ)) : Type 0 where
     pub ranges : RangesSeen x (with_ranges dims last).ranges
     pub indices : AreSeen x last.indices
     pub test : all_in x (with_ranges dims last).ranges ≡ (so_far && is_found dims found)
     pub stands : all_in x last.ranges ≡ true → (zs : List ℤ) → found ≡ Some zs → AreFor x dims last.indices zs
 
-  ended : (dims : List Dim) (zs : List ℤ) (w : Way) → IsWayFor dims zs w → LeadsTo dims (all_in x w.ranges) w (Some zs)
+  ended : (dims : List Dim) (zs : List ℤ) (w : IndexWay) → IsWayFor dims zs w → LeadsTo dims (all_in x w.ranges) w (Some zs)
   ended dims zs w h = record {
     ranges = all_join (λ r. IsSeen x r.operand) w.ranges (ranges_by dims w.indices) h.ranges (ranges_seen x dims w.indices h.indices);
     indices = h.indices;
@@ -305,7 +305,7 @@ module _ (x : Readings) where
       of true e = all_in_for x dims w.indices zs (h.stands e)
       of false e = refl
 
-module _ (x : Readings) (a : Around) (p : PlainPlan) (maps : HasMaps p) (tables : IsProgramTable p.table) (views : a.views ≡ p.views) (memory : ℕ) where
+module _ (x : Readings) (a : RenumberedBlock) (p : PlainPlan) (maps : HasMaps p) (tables : IsProgramTable p.table) (views : a.views ≡ p.views) (memory : ℕ) where
   -- what is out of range of a view, or of the memory, leads nowhere
   nowhere : (ss : List ReachStep) (dims : List Dim) (offsets : ReachStep → List ℤ) (zs : List ℤ) → AreSteps p a.first a.kinds memory ss dims → is_inside dims zs ≡ false
       → is_found x (dims_at p.table memory) (indices_behind p.views (passed_with offsets ss) zs) ≡ false
@@ -326,7 +326,7 @@ module _ (x : Readings) (a : Around) (p : PlainPlan) (maps : HasMaps p) (tables 
   abbrev pub AreOffsets : (ReachStep → List ℤ) → List ReachStep → Type 0
   AreOffsets offsets ss = AllByRecursion (λ s. AreSeen x (map (operand_of a) s.offsets) × AreValues x (map (operand_of a) s.offsets) (offsets s)) ss
 
-  pub steps_lead : (offsets : ReachStep → List ℤ) (ss : List ReachStep) (dims : List Dim) (zs : List ℤ) (w : Way) → AreSteps p a.first a.kinds memory ss dims → AreOffsets offsets ss → IsWayFor x dims zs w
+  pub steps_lead : (offsets : ReachStep → List ℤ) (ss : List ReachStep) (dims : List Dim) (zs : List ℤ) (w : IndexWay) → AreSteps p a.first a.kinds memory ss dims → AreOffsets offsets ss → IsWayFor x dims zs w
       → Obeys x (steps_passed a ss w).operations
       → LeadsTo x (dims_at p.table memory) (all_in x w.ranges) (steps_passed a ss w) (indices_behind p.views (passed_with offsets ss) zs)
   steps_lead offsets [] dims zs w s os h obeys = ended x (dims_at p.table memory) zs w (subst (λ (ds : List Dim). IsWayFor x ds zs w) s h)
@@ -338,11 +338,11 @@ module _ (x : Readings) (a : Around) (p : PlainPlan) (maps : HasMaps p) (tables 
 
       Rest : Type 0
       Rest =
-          (ds : List Dim) (ys : List ℤ) (next : Way) → AreSteps p a.first a.kinds memory ts ds → IsWayFor x ds ys next → Obeys x (steps_passed a ts next).operations
+          (ds : List Dim) (ys : List ℤ) (next : IndexWay) → AreSteps p a.first a.kinds memory ts ds → IsWayFor x ds ys next → Obeys x (steps_passed a ts next).operations
           → LeadsTo x (dims_at p.table memory) (all_in x next.ranges) (steps_passed a ts next) (Behind ys)
 
       -- the view's own range, and what else is to be in range of it
-      joined : (v : ViewMap) (next : Way) (m : ShowsView x v w.indices zs (named_by v (offsets t) zs) (w.ranges ++ ranges_by v.shape.dims w.indices) next) → AreSteps p a.first a.kinds memory ts v.parent.dims
+      joined : (v : ViewMap) (next : IndexWay) (m : ShowsView x v w.indices zs (named_by v (offsets t) zs) (w.ranges ++ ranges_by v.shape.dims w.indices) next) → AreSteps p a.first a.kinds memory ts v.parent.dims
           → (all_in x w.ranges ≡ true → AreFor x v.shape.dims w.indices zs)
           → LeadsTo x (dims_at p.table memory) (all_in x next.ranges) (steps_passed a ts next) (Behind (named_by v (offsets t) zs))
           → LeadsTo x (dims_at p.table memory) (all_in x w.ranges) (steps_passed a ts next) (where_inside (view_through v (offsets t) zs) Behind)
@@ -380,21 +380,21 @@ module _ (x : Readings) (a : Around) (p : PlainPlan) (maps : HasMaps p) (tables 
       of (Some v) e f same rest =
           let next = passed_if (Some v) (map (operand_of a) t.offsets) w in
           let is : step_passed a t w ≡ next = same ∙ ap (λ (o : Option ViewMap). passed_if o (map (operand_of a) t.offsets) w) e in
-          let obeys_all = subst (λ (n : Way). Obeys x (steps_passed a ts n).operations) is obeys in
+          let obeys_all = subst (λ (n : IndexWay). Obeys x (steps_passed a ts n).operations) is obeys in
           let obeys_next = obeys_plain x next.operations _ (steps_plain a ts next) obeys_all in
           let map_of = one_of IsViewMap p.views t.view v maps e in
           let few = way_few p maps tables a.first a.kinds memory ts v.parent.dims f.1.1 in
           let to_own = ap (λ (ds : List Dim). length ds) (sym f.0) in
-          let grown = subst (λ (n : Way). x.first ≤ length n.operations) is (begun_later x w.operations (step_passed a t w).operations (plain_grows _ _ (step_plain a t w)) h.begun) in
+          let grown = subst (λ (n : IndexWay). x.first ≤ length n.operations) is (begun_later x w.operations (step_passed a t w).operations (plain_grows _ _ (step_plain a t w)) h.begun) in
           let m = view_shown x v (map (operand_of a) t.offsets) (offsets t) zs w map_of (view_few v map_of few) few (mapped_long (operand_of a) t.offsets ∙ f.1.0) (h.index_long ∙ to_own) (h.long ∙ to_own) os.0.0 h.indices os.0.1
           h.begun obeys_next
           in
           let many = sort_long v.sort v (map (operand_of a) t.offsets) w.indices w.operations (w.ranges ++ ranges_by v.shape.dims w.indices) map_of.shape (mapped_long (operand_of a) t.offsets ∙ f.1.0) (h.index_long ∙ to_own) in
           let stands : all_in x w.ranges ≡ true → AreFor x v.shape.dims w.indices zs = λ e. subst (λ (ds : List Dim). AreFor x ds w.indices zs) (sym f.0) (h.stands e) in
-          subst (λ (n : Way). LeadsTo x (dims_at p.table memory) (all_in x w.ranges) (steps_passed a ts n) (where_inside (view_through v (offsets t) zs) Behind)) (sym is)
+          subst (λ (n : IndexWay). LeadsTo x (dims_at p.table memory) (all_in x w.ranges) (steps_passed a ts n) (where_inside (view_through v (offsets t) zs) Behind)) (sym is)
           (joined v next m f.1.1 stands (rest v.parent.dims (named_by v (offsets t) zs) next f.1.1 (next_for v next m stands grown many) obeys_all))
         where
-          next_for : (v : ViewMap) (next : Way) → ShowsView x v w.indices zs (named_by v (offsets t) zs) (w.ranges ++ ranges_by v.shape.dims w.indices) next
+          next_for : (v : ViewMap) (next : IndexWay) → ShowsView x v w.indices zs (named_by v (offsets t) zs) (w.ranges ++ ranges_by v.shape.dims w.indices) next
               → (all_in x w.ranges ≡ true → AreFor x v.shape.dims w.indices zs) → x.first ≤ length next.operations → length next.indices ≡ length v.parent.dims
               → IsWayFor x v.parent.dims (named_by v (offsets t) zs) next
           next_for v next m stands begun many = record {

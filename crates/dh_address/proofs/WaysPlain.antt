@@ -17,12 +17,12 @@ use Rattle.dh_rows.proofs.Growing.{plain_grows, plain_self, plain_on, plain_push
 use Rattle.dh_rows.proofs.MovedPut.{moved_plain, dealt_plain, spanned_plain}
 use Rattle.dh_address.specs.declared.operands.Operand.{Operand}
 use Rattle.dh_address.specs.declared.operands.Ranged.{Ranged}
-use Rattle.dh_address.specs.Arounds.{Around}
-use Rattle.dh_address.specs.WaysMade.{Way, way, IsWay, operand_of, ranges_by, is_near, bounded_unless, offset_bounded, made_or, moved_literal, moved_operand, moved_one, moved_all, ones, dealt_literal, dealt_operand, dealt_from, view_dealt, passed_by, passed_if, step_passed, steps_passed, way_begun, passed_to, reach_passed}
+use Rattle.dh_address.specs.Arounds.{RenumberedBlock}
+use Rattle.dh_address.specs.WaysMade.{IndexWay, way, IsIndexWay, operand_of, ranges_by, is_near, bounded_unless, offset_bounded, made_or, moved_literal, moved_operand, moved_one, moved_all, unit_factors, dealt_literal, dealt_operand, dealt_from, view_dealt, passed_by, passed_if, step_passed, steps_passed, way_begun, passed_to, reach_passed}
 
 -- what holds of a way holds of what it was seen as
-pub way_as : (P : List Operation → List Ranged → List Operand → Type 0) (os : List Operation) (ranges : List Ranged) (indices : List Operand) (w : Way)
-    → IsWay os ranges indices w → P w.operations w.ranges w.indices → P os ranges indices
+pub way_as : (P : List Operation → List Ranged → List Operand → Type 0) (os : List Operation) (ranges : List Ranged) (indices : List Operand) (w : IndexWay)
+    → IsIndexWay os ranges indices w → P w.operations w.ranges w.indices → P os ranges indices
 way_as P os ranges indices w e h =
     subst (λ (l : List Operation). P l ranges indices) (sym e.0)
     (subst (λ (rs : List Ranged). P w.operations rs indices) (sym e.1.0) (subst (λ (is : List Operand). P w.operations w.ranges is) (sym e.1.1) h))
@@ -43,12 +43,12 @@ moved_operand_plain os size factor e i =
     made_or_plain (moved_literal e.whole i.literal factor size) os (moved_width size) (moved os (moved_width size) (min factor size) e.value i.value)
     (moved_plain os (moved_width size) (min factor size) e.value i.value)
 
-pub moved_one_plain : (size factor : ℕ) (e i : Operand) (w : Way) → GrowsPlain w.operations (moved_one size factor e i w).operations
+pub moved_one_plain : (size factor : ℕ) (e i : Operand) (w : IndexWay) → GrowsPlain w.operations (moved_one size factor e i w).operations
 moved_one_plain size factor e i w =
     plain_on w.operations (offset_bounded w.operations e ((size - 1) / factor)).operations _ (offset_plain w.operations e ((size - 1) / factor))
     (moved_operand_plain (offset_bounded w.operations e ((size - 1) / factor)).operations size factor e i)
 
-pub moved_all_plain : (ds : List Dim) (ks : List ℕ) (es is : List Operand) (w : Way) → GrowsPlain w.operations (moved_all ds ks es is w).operations
+pub moved_all_plain : (ds : List Dim) (ks : List ℕ) (es is : List Operand) (w : IndexWay) → GrowsPlain w.operations (moved_all ds ks es is w).operations
 moved_all_plain [] ks es is w = plain_self w.operations
 moved_all_plain (d ∷ ds) [] es is w = plain_self w.operations
 moved_all_plain (d ∷ ds) (k ∷ ks) [] is w = plain_self w.operations
@@ -75,29 +75,29 @@ passed_by_plain : (sort : ViewSort) (v : ViewMap) (es is : List Operand) (os : L
 passed_by_plain Shrink v es is os ranges = plain_self os
 passed_by_plain Split v es is os ranges = view_dealt_plain (slice_get v.shape.dims 0) (slice_get v.shape.dims 1) v.parent.dims is os
 passed_by_plain Suffix v es is os ranges = moved_all_plain v.parent.dims v.by es is (way os ranges [])
-passed_by_plain Shift v es is os ranges = moved_all_plain v.parent.dims (ones v.parent.dims) es is (way os ranges [])
+passed_by_plain Shift v es is os ranges = moved_all_plain v.parent.dims (unit_factors v.parent.dims) es is (way os ranges [])
 
-passed_if_plain : (o : Option ViewMap) (es : List Operand) (w : Way) → GrowsPlain w.operations (passed_if o es w).operations
+passed_if_plain : (o : Option ViewMap) (es : List Operand) (w : IndexWay) → GrowsPlain w.operations (passed_if o es w).operations
 passed_if_plain None es w = plain_self w.operations
 passed_if_plain (Some v) es w = passed_by_plain v.sort v es w.indices w.operations (w.ranges ++ ranges_by v.shape.dims w.indices)
 
-pub step_plain : (a : Around) (s : ReachStep) (w : Way) → GrowsPlain w.operations (step_passed a s w).operations
+pub step_plain : (a : RenumberedBlock) (s : ReachStep) (w : IndexWay) → GrowsPlain w.operations (step_passed a s w).operations
 step_plain a s w = passed_if_plain (slice_get a.views s.view) (map (operand_of a) s.offsets) w
 
-pub steps_plain : (a : Around) (ss : List ReachStep) (w : Way) → GrowsPlain w.operations (steps_passed a ss w).operations
+pub steps_plain : (a : RenumberedBlock) (ss : List ReachStep) (w : IndexWay) → GrowsPlain w.operations (steps_passed a ss w).operations
 steps_plain a [] w = plain_self w.operations
 steps_plain a (s ∷ ss) w = plain_on w.operations (step_passed a s w).operations _ (step_plain a s w) (steps_plain a ss (step_passed a s w))
 
-to_plain : (a : Around) (r : Reach) (row : Option ℕ) (os : List Operation) → GrowsPlain os (passed_to a r row os).operations
+to_plain : (a : RenumberedBlock) (r : Reach) (row : Option ℕ) (os : List Operation) → GrowsPlain os (passed_to a r row os).operations
 to_plain a r None os = steps_plain a r.steps (way_begun a r os)
 to_plain a r (Some row) os = plain_self os
 
-pub reach_plain : (a : Around) (r : Reach) (os : List Operation) → GrowsPlain os (reach_passed a r os).operations
+pub reach_plain : (a : RenumberedBlock) (r : Reach) (os : List Operation) → GrowsPlain os (reach_passed a r os).operations
 reach_plain a r os = to_plain a r r.row os
 
 -- of what was seen as the way of an access
-pub passed_plain : (a : Around) (r : Reach) (old passed : List Operation) (ranges : List Ranged) (indices : List Operand) → IsWay passed ranges indices (reach_passed a r old) → GrowsPlain old passed
+pub passed_plain : (a : RenumberedBlock) (r : Reach) (old passed : List Operation) (ranges : List Ranged) (indices : List Operand) → IsIndexWay passed ranges indices (reach_passed a r old) → GrowsPlain old passed
 passed_plain a r old passed ranges indices e = subst (λ (l : List Operation). GrowsPlain old l) (sym e.0) (reach_plain a r old)
 
-pub passed_grows : (a : Around) (r : Reach) (old passed : List Operation) (ranges : List Ranged) (indices : List Operand) → IsWay passed ranges indices (reach_passed a r old) → OperationsGrow old passed
+pub passed_grows : (a : RenumberedBlock) (r : Reach) (old passed : List Operation) (ranges : List Ranged) (indices : List Operand) → IsIndexWay passed ranges indices (reach_passed a r old) → OperationsGrow old passed
 passed_grows a r old passed ranges indices e = plain_grows old passed (passed_plain a r old passed ranges indices e)

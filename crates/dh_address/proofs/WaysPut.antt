@@ -33,8 +33,8 @@ use Rattle.dh_rows.proofs.DealtIndices.{dealt_small}
 use Rattle.dh_address.specs.declared.operands.Operand.{Operand}
 use Rattle.dh_address.specs.declared.operands.Ranged.{Ranged}
 use Rattle.dh_address.specs.LiteralPlaces.{below_size}
-use Rattle.dh_address.specs.Arounds.{Around}
-use Rattle.dh_address.specs.WaysMade.{Way, way, IsWay, Bounded, operand_of, ranges_by, span_range, is_near, bounded_unless, offset_bounded, Placed, placed_as, made_or, index_moved, steps_by, moved_literal, moved_operand, moved_one, moved_all, maybe_range, ones, dealt_known, dealt_literal, dealt_operand, split_made, dealt_way, passed_by, passed_if, step_passed, steps_passed, with_ranges, way_begun, passed_to, reach_passed}
+use Rattle.dh_address.specs.Arounds.{RenumberedBlock}
+use Rattle.dh_address.specs.WaysMade.{IndexWay, way, IsIndexWay, Bounded, operand_of, ranges_by, span_range, is_near, bounded_unless, offset_bounded, PlacedOperand, placed_as, made_or, index_moved, steps_by, moved_literal, moved_operand, moved_one, moved_all, maybe_range, unit_factors, dealt_known, dealt_literal, dealt_operand, split_made, dealt_way, passed_by, passed_if, step_passed, steps_passed, with_ranges, way_begun, passed_to, reach_passed}
 use Rattle.dh_address.proofs.AccessesPut.{IsInputOf, IsNumberKnown, input_later, operand_there, operands_there, all_join}
 use Rattle.dh_address.proofs.LiteralMeans.{below_means}
 use Rattle.dh_address.proofs.TestedRanges.{IsThere, IsTestable, there_later, all_there, testable_later, begun_later}
@@ -108,7 +108,7 @@ module _ (x : Readings) (clock : ℕ) where
     pub ranges : AllByRecursion (IsTestable x clock new) tested
     pub indices : AllByRecursion (IsThere x clock new) inner
 
-  abbrev pub PutsWay : (old : List Operation) → Way → Type 0
+  abbrev pub PutsWay : (old : List Operation) → IndexWay → Type 0
   PutsWay old w = PutsPassed old w.operations w.ranges w.indices
 
   -- Offsets.
@@ -132,7 +132,7 @@ module _ (x : Readings) (clock : ℕ) where
 
   -- Indices.
 
-  pub record PutsPlaced (old : List Operation) (m : Placed) : Type 0 where
+  pub record PutsPlaced (old : List Operation) (m : PlacedOperand) : Type 0 where
     pub adds : AddsOperations x clock old m.operations
     pub there : IsThere x clock m.operations m.operand
 
@@ -173,7 +173,7 @@ module _ (x : Readings) (clock : ℕ) where
 
   -- Of a view that moves.
 
-  pub moved_one_put : (old : List Operation) (size factor : ℕ) (e i : Operand) (w : Way) → x.first ≤ length old → size < 2 ^ 60 → PutsWay old w → IsThere x clock w.operations e → IsThere x clock w.operations i
+  pub moved_one_put : (old : List Operation) (size factor : ℕ) (e i : Operand) (w : IndexWay) → x.first ≤ length old → size < 2 ^ 60 → PutsWay old w → IsThere x clock w.operations e → IsThere x clock w.operations i
       → PutsWay old (moved_one size factor e i w)
   moved_one_put old size factor e i w begun few h g k =
       let b = offset_bounded w.operations e ((size - 1) / factor) in
@@ -190,7 +190,7 @@ module _ (x : Readings) (clock : ℕ) where
         indices = all_join (IsThere x clock m.operations) w.indices (m.operand ∷ []) (all_there x clock w.operations m.operations far w.indices h.indices) (two.there, tt);
       }
 
-  pub moved_all_put : (old : List Operation) (ds : List Dim) (ks : List ℕ) (es is : List Operand) (w : Way) → x.first ≤ length old → AreFew ds → PutsWay old w → AllByRecursion (IsThere x clock w.operations) es
+  pub moved_all_put : (old : List Operation) (ds : List Dim) (ks : List ℕ) (es is : List Operand) (w : IndexWay) → x.first ≤ length old → AreFew ds → PutsWay old w → AllByRecursion (IsThere x clock w.operations) es
       → AllByRecursion (IsThere x clock w.operations) is → PutsWay old (moved_all ds ks es is w)
   moved_all_put old [] ks es is w begun few h g k = h
   moved_all_put old (d ∷ ds) [] es is w begun few h g k = h
@@ -227,14 +227,14 @@ module _ (x : Readings) (clock : ℕ) where
   sort_put Suffix v old es is os ranges begun s own few h g =
       moved_all_put old v.parent.dims v.by es is (way os ranges []) begun few (record { adds = h.adds; ranges = h.ranges; indices = tt }) g h.indices
   sort_put Shift v old es is os ranges begun s own few h g =
-      moved_all_put old v.parent.dims (ones v.parent.dims) es is (way os ranges []) begun few (record { adds = h.adds; ranges = h.ranges; indices = tt }) g h.indices
+      moved_all_put old v.parent.dims (unit_factors v.parent.dims) es is (way os ranges []) begun few (record { adds = h.adds; ranges = h.ranges; indices = tt }) g h.indices
 
   pub ranges_there : (os : List Operation) (dims : List Dim) (is : List Operand) → AllByRecursion (IsThere x clock os) is → AllByRecursion (IsTestable x clock os) (ranges_by dims is)
   ranges_there os [] is h = tt
   ranges_there os (d ∷ ds) [] h = tt
   ranges_there os (d ∷ ds) (i ∷ is) h = (h.0, ranges_there os ds is h.1)
 
-  pub view_put : (v : ViewMap) (old : List Operation) (es : List Operand) (w : Way) → x.first ≤ length old → IsViewMap v → AreFew v.shape.dims → AreFew v.parent.dims → PutsWay old w
+  pub view_put : (v : ViewMap) (old : List Operation) (es : List Operand) (w : IndexWay) → x.first ≤ length old → IsViewMap v → AreFew v.shape.dims → AreFew v.parent.dims → PutsWay old w
       → AllByRecursion (IsThere x clock w.operations) es → PutsWay old (passed_if (Some v) es w)
   view_put v old es w begun map own few h g =
       sort_put v.sort v old es w.indices w.operations (w.ranges ++ ranges_by v.shape.dims w.indices) begun map.shape own few (record {
@@ -244,14 +244,14 @@ module _ (x : Readings) (clock : ℕ) where
       })
       g
 
-  module _ (a : Around) (p : PlainPlan) (maps : HasMaps p) (tables : IsProgramTable p.table) (views : a.views ≡ p.views) where
+  module _ (a : RenumberedBlock) (p : PlainPlan) (maps : HasMaps p) (tables : IsProgramTable p.table) (views : a.views ≡ p.views) where
     -- the offsets of a step, at its new numbers
     offsets_there : (old os : List Operation) → OperationsGrow old os → (vs : List ℕ) → AllByRecursion (IsNumberKnown x clock a) vs → AllByRecursion (IsInputOf x clock a (length old)) vs
         → AllByRecursion (IsThere x clock os) (map (operand_of a) vs)
     offsets_there old os g vs k h =
         operands_there x clock a os vs k (all_map (IsInputOf x clock a (length old)) (IsInputOf x clock a (length os)) vs (λ v. input_later x clock a (length old) (length os) v (grown_length old os g)) h)
 
-    steps_put : (memory : ℕ) (steps : List ReachStep) (dims : List Dim) (old : List Operation) (w : Way) → x.first ≤ length old → AreSteps p a.first a.kinds memory steps dims
+    steps_put : (memory : ℕ) (steps : List ReachStep) (dims : List Dim) (old : List Operation) (w : IndexWay) → x.first ≤ length old → AreSteps p a.first a.kinds memory steps dims
         → AllByRecursion (IsNumberKnown x clock a) (offsets_taken steps) → AllByRecursion (IsInputOf x clock a (length old)) (offsets_taken steps) → PutsWay old w → PutsWay old (steps_passed a steps w)
     steps_put memory [] dims old w begun s k h put = put
     steps_put memory (t ∷ ts) dims old w begun s k h put =
@@ -271,7 +271,7 @@ module _ (x : Readings) (clock : ℕ) where
             view_put v old (map (operand_of a) t.offsets) w begun map_of (view_few v map_of few) few put
             (offsets_there old w.operations put.adds.grows t.offsets (all_left (IsNumberKnown x clock a) t.offsets (offsets_taken ts) k) (all_left (IsInputOf x clock a (length old)) t.offsets (offsets_taken ts) h))
 
-    pub ending_put : (dims : List Dim) (old : List Operation) (w : Way) → PutsWay old w → PutsWay old (with_ranges dims w)
+    pub ending_put : (dims : List Dim) (old : List Operation) (w : IndexWay) → PutsWay old w → PutsWay old (with_ranges dims w)
     ending_put dims old w h = record {
       adds = h.adds;
       ranges = all_join (IsTestable x clock w.operations) w.ranges (ranges_by dims w.indices) h.ranges (ranges_there w.operations dims w.indices h.indices);
@@ -298,7 +298,7 @@ module _ (x : Readings) (clock : ℕ) where
         (all_left P r.indices _ taken) (all_left P (offsets_taken r.steps) _ behind) (all_right P (one_or_none r.select) (one_or_none r.row) last)
 
     -- of what was seen as the way of an access
-    pub passed_put : (r : Reach) → ReachSuits p a.first a.kinds r → (old passed : List Operation) (ranges : List Ranged) (indices : List Operand) → IsWay passed ranges indices (reach_passed a r old)
+    pub passed_put : (r : Reach) → ReachSuits p a.first a.kinds r → (old passed : List Operation) (ranges : List Ranged) (indices : List Operand) → IsIndexWay passed ranges indices (reach_passed a r old)
         → x.first ≤ length old → AllByRecursion (IsInputOf x clock a (length old)) (reach_takes r) → PutsPassed old passed ranges indices
     passed_put r suits old passed ranges indices e begun taken =
         way_as (λ os rs is. PutsPassed old os rs is) passed ranges indices (reach_passed a r old) e (reach_put r suits old begun taken)

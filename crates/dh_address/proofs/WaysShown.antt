@@ -31,7 +31,7 @@ use Rattle.dh_rows.proofs.DealtIndices.{dealt_small, dealt_shows, dealt_cuts}
 use Rattle.dh_address.specs.declared.operands.Operand.{Operand}
 use Rattle.dh_address.specs.declared.operands.Ranged.{Ranged}
 use Rattle.dh_address.specs.LiteralPlaces.{below_size}
-use Rattle.dh_address.specs.WaysMade.{Way, Placed, span_range, is_near, bounded_unless, offset_bounded, placed_as, made_or, index_moved, word_steps, steps_by, moved_literal, moved_operand, moved_one, maybe_range, dealt_literal, dealt_operand, ranges_by}
+use Rattle.dh_address.specs.WaysMade.{IndexWay, PlacedOperand, span_range, is_near, bounded_unless, offset_bounded, placed_as, made_or, index_moved, word_steps, steps_by, moved_literal, moved_operand, moved_one, maybe_range, dealt_literal, dealt_operand, ranges_by}
 use Rattle.dh_address.proofs.AccessesLead.{in_range}
 use Rattle.dh_address.proofs.LiteralMeans.{below_means, natural_range}
 use Rattle.dh_address.proofs.TestedRanges.{IsShown, all_in, and_true, begun_later}
@@ -295,7 +295,7 @@ module _ (x : Readings) where
 
   -- A moved index.
 
-  pub record ShowsMoved (size factor : ℕ) (m : Placed) (e i : ℤ) (index : Operand) : Type 0 where
+  pub record ShowsMoved (size factor : ℕ) (m : PlacedOperand) (e i : ℤ) (index : Operand) : Type 0 where
     pub seen : IsSeen m.operand
     pub stands : StandsFor size index i → is_index size i ≡ true → is_small e ((size - 1) / factor) ≡ true → StandsFor size m.operand ((pos factor *ℤ e) +ℤ i)
 
@@ -361,11 +361,11 @@ module _ (x : Readings) where
 
   -- One dimension of a view that moves.
 
-  pub record ShowsOne (size factor : ℕ) (e i : Operand) (ez iz : ℤ) (w : Way) : Type 0 where
+  pub record ShowsOne (size factor : ℕ) (e i : Operand) (ez iz : ℤ) (w : IndexWay) : Type 0 where
     pub range : ShowsRange (maybe_range (offset_bounded w.operations e ((size - 1) / factor)).range) (is_small ez ((size - 1) / factor))
     pub index : ShowsMoved size factor (moved_operand (offset_bounded w.operations e ((size - 1) / factor)).operations size factor e i) ez iz i
 
-  pub moved_one_shown : (size factor : ℕ) (e i : Operand) (ez iz : ℤ) (w : Way) → size < 2 ^ 60 → 1 ≤ size → 1 ≤ factor → x.first ≤ length w.operations → IsSeen e → IsSeen i → value_of (x.word e.value) ≡ ez
+  pub moved_one_shown : (size factor : ℕ) (e i : Operand) (ez iz : ℤ) (w : IndexWay) → size < 2 ^ 60 → 1 ≤ size → 1 ≤ factor → x.first ≤ length w.operations → IsSeen e → IsSeen i → value_of (x.word e.value) ≡ ez
       → Obeys x (moved_one size factor e i w).operations → ShowsOne size factor e i ez iz w
   moved_one_shown size factor e i ez iz w few some more begun e_seen i_seen e_is obeys =
       let bound = (size - 1) / factor in
@@ -393,7 +393,7 @@ module _ (x : Readings) where
 
   -- A split.
 
-  pub record ShowsDealt (v w p : Dim) (k : ℕ) (m : Placed) (a b : Operand) (az bz : ℤ) : Type 0 where
+  pub record ShowsDealt (v w p : Dim) (k : ℕ) (m : PlacedOperand) (a b : Operand) (az bz : ℤ) : Type 0 where
     pub seen : IsSeen m.operand
     pub stands : StandsFor v.size a az → StandsFor w.size b bz → is_index v.size az ≡ true → is_index w.size bz ≡ true
         → StandsFor p.size m.operand (pos (dealt_index p.banks (p.banks / k) (unsigned_abs az) (unsigned_abs bz)))

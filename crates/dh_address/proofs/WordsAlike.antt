@@ -37,8 +37,8 @@ use Rattle.dh_address.specs.declared.literals.LiteralPlace.{LiteralPlace}
 use Rattle.dh_address.specs.declared.operands.Operand.{Operand}
 use Rattle.dh_address.specs.declared.operands.Ranged.{Ranged}
 use Rattle.dh_address.specs.LiteralPlaces.{literal_at, whole_at, literal_places}
-use Rattle.dh_address.specs.Pieces.{Around, new_number, new_or_none, known_kind, all_taken, values_of, aimed, aim_width, select_width, waited, is_banked, IsAim, IsAimBut, IsAimed, IsAccessMade}
-use Rattle.dh_address.specs.WaysMade.{Way, IsWay, operand_of, ranges_by, steps_passed, way_begun, passed_to, reach_passed}
+use Rattle.dh_address.specs.Pieces.{RenumberedBlock, new_number, new_or_none, known_kind, indices_and_offsets, operand_values, aimed_reach, aim_width, select_width, waited, is_banked, IsAim, IsAimBut, IsAimedReach, IsAccessMade}
+use Rattle.dh_address.specs.WaysMade.{IndexWay, IsIndexWay, operand_of, ranges_by, steps_passed, way_begun, passed_to, reach_passed}
 use Rattle.dh_address.proofs.AccessesLead.{truth_word, word_in_kind, both_true, in_range, abs_of, inside_within, place_leads, only_bank, holds_on}
 use Rattle.dh_address.proofs.AccessesPut.{HasMany, picked}
 use Rattle.dh_address.proofs.AimedRows.{ShowsAim, ShowsSelect, PlaceIs, index_aim_shows, HasSelect}
@@ -59,7 +59,7 @@ module _ (p : PlainPlan) (maps : HasMaps p) (tables : IsProgramTable p.table) (b
   abbrev q : PlainPlan
   q = image_of p bs
 
-  abbrev a : Around
+  abbrev a : RenumberedBlock
   a = around p block ns ks
 
   abbrev old_first : ℕ
@@ -210,7 +210,7 @@ module _ (p : PlainPlan) (maps : HasMaps p) (tables : IsProgramTable p.table) (b
     found_some None = refl
     found_some (Some zs) = sym (is_there (is_inside (dims_at p.table r.memory) zs) (spot_of p.table r.memory (abs_of zs)))
 
-    led_to : (w : Way) (o : Option (List ℤ)) (spot : Spot) → LeadsTo x (dims_at p.table r.memory) true w o → spot_if_inside p.table r.memory o ≡ Some spot → IsLedTo r w.indices spot
+    led_to : (w : IndexWay) (o : Option (List ℤ)) (spot : Spot) → LeadsTo x (dims_at p.table r.memory) true w o → spot_if_inside p.table r.memory o ≡ Some spot → IsLedTo r w.indices spot
     led_to w None spot l e = absurd (cc)
     led_to w (Some zs) spot l e =
         let c = chosen_some (is_inside (dims_at p.table r.memory) zs) (spot_of p.table r.memory (abs_of zs)) spot e in
@@ -242,12 +242,12 @@ module _ (p : PlainPlan) (maps : HasMaps p) (tables : IsProgramTable p.table) (b
         some_none : Some row ≡ None → ⊥
         some_none e = cc
 
-    pub passed_shows : (passed : List Operation) (ranges : List Ranged) (indices : List Operand) → IsWay passed ranges indices (reach_passed a r old) → Obeys x passed → PassShows r r.row ranges indices
+    pub passed_shows : (passed : List Operation) (ranges : List Ranged) (indices : List Operand) → IsIndexWay passed ranges indices (reach_passed a r old) → Obeys x passed → PassShows r r.row ranges indices
     passed_shows passed ranges indices e obeys =
         way_as (λ os rs is. PassShows r r.row rs is) passed ranges indices (reach_passed a r old) e (to_shows r.row refl (subst (λ (os : List Operation). Obeys x os) e.0 obeys))
 
   -- indices in range are natural numbers below the sizes
-  all_within : (dims : List Dim) (is : List Operand) (zs : List ℤ) → AreFor x dims is zs → is_inside dims zs ≡ true → IndicesAreWithin x dims (values_of is) (abs_of zs)
+  all_within : (dims : List Dim) (is : List Operand) (zs : List ℤ) → AreFor x dims is zs → is_inside dims zs ≡ true → IndicesAreWithin x dims (operand_values is) (abs_of zs)
   all_within [] [] [] f e = tt
   all_within [] [] (z ∷ zs) f e = absurd f
   all_within [] (i ∷ is) zs f e = absurd f
@@ -302,7 +302,7 @@ module _ (p : PlainPlan) (maps : HasMaps p) (tables : IsProgramTable p.table) (b
 
   indices_lead : (r : Reach) (taken : List ℕ) (row : ℕ) (select : Option ℕ) (is : List Operand) (spot : Spot) (l : IsLedTo r is spot)
       → ShowsAim x (aim_width (dims_at p.table r.memory)) (select_width (dims_at p.table r.memory)) row select (row_of (dims_at p.table r.memory) (abs_of l.numbers)) (bank_of (dims_at p.table r.memory) (abs_of l.numbers))
-      → IsPickedBank r select → ((place : ℕ) × IsListed spot.bank place r.banks) → spot_of_reach t first vs (aimed r taken row select) ≡ Some spot
+      → IsPickedBank r select → ((place : ℕ) × IsListed spot.bank place r.banks) → spot_of_reach t first vs (aimed_reach r taken row select) ≡ Some spot
   indices_lead r taken row select is spot l shows picked listed =
       let dims = dims_at p.table r.memory in
       let ns = abs_of l.numbers in
@@ -313,7 +313,7 @@ module _ (p : PlainPlan) (maps : HasMaps p) (tables : IsProgramTable p.table) (b
       ∙ (place_leads p.table r.memory ns (dims_formed p.table r.memory tables.entries) (inside_within dims l.numbers l.inside) ∙ ap (λ (sp : Spot). Some sp) l.spot_is))
 
   row_leads : (r : Reach) (taken : List ℕ) (row : ℕ) → r.row ≡ Some row → IsGoodNumber row → AllByRecursion IsSame (one_or_none r.select)
-      → spot_of_reach t first vs (aimed r taken (new_number a row) (new_or_none a r.select)) ≡ spot_of_reach s old_first ws r
+      → spot_of_reach t first vs (aimed_reach r taken (new_number a row) (new_or_none a r.select)) ≡ spot_of_reach s old_first ws r
   row_leads r taken row e good select =
       ap (λ (b : ℕ). spot_by_row p.table r.memory b (value_of (word_at first vs (new_number a row)))) (banks_same r.select select)
       ∙ (ap (λ (w : Word). spot_by_row p.table r.memory (bank_picked old_first ws r.banks r.select) (value_of w)) good.good.same ∙ sym (by_row r row e))
@@ -338,12 +338,12 @@ module _ (p : PlainPlan) (maps : HasMaps p) (tables : IsProgramTable p.table) (b
   but_has (Some place) width narrow dims indices banked old new row select h = aim_has banked (constant_made old width place.row) _ new row select h
 
   module _ (r : Reach) (m : IsMeant r) where
-    aimed_leads : (row : Option ℕ) → r.row ≡ row → (is : List Operand) (old last : List Operation) (u : Reach) → IsAimed a r row is old last u → first ≤ length old → Obeys x last → HasMany p.table r row is → AreSeen x is
+    aimed_leads : (row : Option ℕ) → r.row ≡ row → (is : List Operand) (old last : List Operation) (u : Reach) → IsAimedReach a r row is old last u → first ≤ length old → Obeys x last → HasMany p.table r row is → AreSeen x is
         → (row ≡ None → (spot : Spot) → spot_of_reach s old_first ws r ≡ Some spot → IsLedTo r is spot) → LeadsAlike r u
     aimed_leads None e is old last u h begun obeys long seen_indices lead =
         let dims = dims_at p.table r.memory in
         let mid = (waited old (new_or_none a r.select)).operations in
-        let taken = all_taken a r ++ one_or_none (waited old (new_or_none a r.select)).sum in
+        let taken = indices_and_offsets a r ++ one_or_none (waited old (new_or_none a r.select)).sum in
         let at_mid = begun_later x old mid (waited_grows old (new_or_none a r.select)) begun in
         let picks = picked x 0 a r h.select (but_has (literal_places dims is 0 0) _ _ _ _ (is_banked r) mid last h.row h.select h.aim) in
         subst (λ (w : Reach). LeadsAlike r w) (sym h.reach)
@@ -352,7 +352,7 @@ module _ (p : PlainPlan) (maps : HasMaps p) (tables : IsProgramTable p.table) (b
           leads = λ spot leads listed.
               (let l = lead refl spot leads in
               indices_lead r taken h.row h.select is spot l
-              (index_aim_shows x (aim_width dims) (select_width dims) (literal_places dims is 0 0) dims (values_of is) (is_banked r) mid last h.row h.select (abs_of l.numbers) h.aim
+              (index_aim_shows x (aim_width dims) (select_width dims) (literal_places dims is 0 0) dims (operand_values is) (is_banked r) mid last h.row h.select (abs_of l.numbers) h.aim
               (width_suffices p.table r.memory tables)
               (bank_fits (select_width dims) dims (bank_of dims (abs_of l.numbers)) (select_suffices p.table r.memory tables)
               (bank_below dims (abs_of l.numbers) (dims_formed p.table r.memory tables.entries) (inside_within dims l.numbers l.inside)))
@@ -363,7 +363,7 @@ module _ (p : PlainPlan) (maps : HasMaps p) (tables : IsProgramTable p.table) (b
         subst (λ (w : Reach). LeadsAlike r w) (sym h.1)
         (record {
           memory = refl;
-          leads = λ spot leads listed. row_leads r (all_taken a r) row e (subst (λ (o : Option ℕ). AllByRecursion IsGoodNumber (one_or_none o)) e m.row).0 m.select ∙ leads;
+          leads = λ spot leads listed. row_leads r (indices_and_offsets a r) row e (subst (λ (o : Option ℕ). AllByRecursion IsGoodNumber (one_or_none o)) e m.row).0 m.select ∙ leads;
         })
 
     pub access_means : (g : Option ℕ) (old last : List Operation) (on : Option ℕ) (u : Reach) → IsAccessMade a (new_or_none a g) r old last on u → first ≤ length old → Obeys x last

@@ -29,7 +29,7 @@ use Rattle.dh_rows.specs.Readings.{Readings, OperationsGrow}
 use Rattle.dh_rows.specs.MadeOperations.{pushed, IsMade}
 use Rattle.dh_rows.proofs.Growing.{grows_on, kept_there, pushed_grows, obeys_before, pushed_word}
 use Rattle.dh_address.proofs.WaySizes.{HasMaps}
-use Rattle.dh_address.specs.Pieces.{Around, is_probe, is_probe_form, new_number, new_or_none, false_behind_all, false_word, new_takes, IsProbeValue, IsAccessMade, IsReadMade, IsWriteMade, IsProbed, IsFormMade}
+use Rattle.dh_address.specs.Pieces.{RenumberedBlock, is_probe, is_probe_form, new_number, new_or_none, false_behind_all, false_word, new_takes, IsProbeValue, IsAccessMade, IsReadMade, IsWriteMade, IsProbed, IsFormMade}
 use Rattle.dh_address.specs.Renumbered.{renumbered}
 use Rattle.dh_address.proofs.BlockEquations.{word_solved}
 use Rattle.dh_address.proofs.FalsePut.{many_false, many_false_grow}
@@ -101,7 +101,7 @@ module _ (p : PlainPlan) (maps : HasMaps p) (tables : IsProgramTable p.table) (b
   module _ (fits : AreInKinds p block ws) (listed : ReachesListed) where
     module _ (ns : List ℕ) (ks : List Kind) (i : ℕ) (o : Operation) (old mid : List Operation) (n : ℕ) (at : IsPieceAt p maps tables bs block front begins formed ns ks i o old mid n)
         (takes : AllByRecursion (λ v. SameWord v (renumbered old_first ns v)) (operation_takes o)) where
-      abbrev a : Around
+      abbrev a : RenumberedBlock
       a = around p block ns ks
 
       pub in_kinds : AllByRecursion (IsSameInKind p maps tables bs block ns ks registers memories) (operation_takes o)

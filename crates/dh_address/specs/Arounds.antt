@@ -9,7 +9,7 @@ use Rattle.dh_plan.specs.PlanKinds.{kind_of_value}
 use Rattle.dh_address.specs.Renumbered.{renumbered, maybe_renumbered}
 
 -- a block of the old plan, and of its operations so far the new numbers and the kinds of their values
-pub record Around : Type 0 where
+pub record RenumberedBlock : Type 0 where
   pub table : List MemEntry
   pub views : List ViewMap
   pub operations : List Operation
@@ -21,11 +21,11 @@ pub record Around : Type 0 where
   pub kinds : List Kind
 
 -- the number of a value in the new plan
-abbrev pub new_number : Around → (value : ℕ) → ℕ
+abbrev pub new_number : RenumberedBlock → (value : ℕ) → ℕ
 new_number a value = renumbered a.first a.numbers value
 
-abbrev pub new_or_none : Around → Option ℕ → Option ℕ
+abbrev pub new_or_none : RenumberedBlock → Option ℕ → Option ℕ
 new_or_none a value = maybe_renumbered a.first a.numbers value
 
-abbrev pub known_kind : Around → (value : ℕ) → Kind
+abbrev pub known_kind : RenumberedBlock → (value : ℕ) → Kind
 known_kind a value = kind_of_value a.first a.kinds value

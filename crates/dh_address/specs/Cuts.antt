@@ -10,5 +10,5 @@ pub record AreStarts (blocks : List PlanBlock) (starts : List ℕ) : Type 0 wher
   pub each : (i : ℕ) → i < length blocks → slice_index starts i ≡ length (operations_until blocks i)
 
 -- whatever blocks these operations are of, and begin there, they are found
-abbrev pub IsCut : List Operation → (starts : List ℕ) → List PlanBlock → Type 0
-IsCut os starts found = (blocks : List PlanBlock) → AreStarts blocks starts → os ≡ operations_until blocks (length blocks) → found ≡ blocks
+abbrev pub IsCutIntoBlocks : List Operation → (starts : List ℕ) → List PlanBlock → Type 0
+IsCutIntoBlocks os starts found = (blocks : List PlanBlock) → AreStarts blocks starts → os ≡ operations_until blocks (length blocks) → found ≡ blocks

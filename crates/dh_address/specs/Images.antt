@@ -5,10 +5,10 @@ use Rattle.dh_plan.specs.declared.operations.Operation.{Operation}
 use Rattle.dh_plan.specs.declared.operations.PlanBlock.{PlanBlock}
 use Rattle.dh_plan.specs.PlainPlans.{PlainPlan, first_in, operations_in}
 use Rattle.dh_plan.specs.PlanKinds.{form_kind}
-use Rattle.dh_address.specs.Pieces.{Around, any_takes_probe, IsPiece}
+use Rattle.dh_address.specs.Pieces.{RenumberedBlock, any_takes_probe, IsPiece}
 
 -- one operation more is known
-abbrev pub and_known : Around → (number : ℕ) → Kind → Around
+abbrev pub and_known : RenumberedBlock → (number : ℕ) → Kind → RenumberedBlock
 and_known a number k =
     record { table = a.table; views = a.views; operations = a.operations; first = a.first; probed = a.probed; numbers = a.numbers ++ number ∷ []; kinds = a.kinds ++ k ∷ [] }
 
@@ -20,7 +20,7 @@ pub record PieceThen (First Rest : List Operation → ℕ → Type 0) : Type 0 w
   pub rest : Rest mid number
 
 -- pieces of operations one after the other; these are then the numbers of all
-abbrev pub ArePieces : (registers : List Kind) → Around → (rest : List Operation) → (old new : List Operation) → (numbers : List ℕ) → Type 0
+abbrev pub ArePieces : (registers : List Kind) → RenumberedBlock → (rest : List Operation) → (old new : List Operation) → (numbers : List ℕ) → Type 0
 ArePieces registers a [] old new numbers = (new ≡ old) × (numbers ≡ a.numbers)
 ArePieces registers a (o ∷ os) old new numbers =
     PieceThen (λ mid n. IsPiece a o old mid n)
@@ -33,7 +33,7 @@ operations_until (b ∷ bs) zero = []
 operations_until (b ∷ bs) (suc n) = b.operations ++ operations_until bs n
 
 -- as a block begins, nothing of it is known
-abbrev pub around_block : PlainPlan → (block : ℕ) → Around
+abbrev pub around_block : PlainPlan → (block : ℕ) → RenumberedBlock
 around_block p block = record {
   table = p.table;
   views = p.views;

@@ -27,8 +27,8 @@ whole_in kind.Bool bits = None
 whole_in (kind.Unsigned w) bits = Some (pos bits)
 whole_in (kind.Signed w) bits = if nat_le w 64 then Some (signed w bits) else None
 
-abbrev pub whole : Word → Option ℤ
-whole w = whole_in w.kind w.bits
+abbrev pub whole_of_word : Word → Option ℤ
+whole_of_word w = whole_in w.kind w.bits
 
 abbrev pub constant_form : OperationForm → Option Word
 constant_form (Constant word) = Some word
@@ -47,9 +47,9 @@ abbrev pub natural_if : Option Word → Option ℕ
 natural_if None = None
 natural_if (Some word) = natural word
 
-abbrev pub whole_if : Option Word → Option ℤ
-whole_if None = None
-whole_if (Some word) = whole word
+abbrev pub whole_if_constant : Option Word → Option ℤ
+whole_if_constant None = None
+whole_if_constant (Some word) = whole_of_word word
 
 abbrev pub literal_in : Option Operation → Option ℕ
 literal_in o = natural_if (constant_in o)
@@ -58,7 +58,7 @@ abbrev pub literal_at : List Operation → (place : ℕ) → Option ℕ
 literal_at os place = literal_in (slice_get os place)
 
 abbrev pub whole_at : List Operation → (place : ℕ) → Option ℤ
-whole_at os place = whole_if (constant_in (slice_get os place))
+whole_at os place = whole_if_constant (constant_in (slice_get os place))
 
 abbrev pub below_size : Option ℕ → (size : ℕ) → Option ℕ
 below_size None size = None

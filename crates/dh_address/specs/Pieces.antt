@@ -25,8 +25,8 @@ use Rattle.dh_address.specs.declared.literals.LiteralPlace.{LiteralPlace}
 use Rattle.dh_address.specs.declared.operands.Operand.{Operand}
 use Rattle.dh_address.specs.declared.operands.Ranged.{Ranged}
 use Rattle.dh_address.specs.LiteralPlaces.{below_size, literal_places}
-pub use Rattle.dh_address.specs.Arounds.{Around, new_number, new_or_none, known_kind}
-use Rattle.dh_address.specs.WaysMade.{IsWay, reach_passed}
+pub use Rattle.dh_address.specs.Arounds.{RenumberedBlock, new_number, new_or_none, known_kind}
+use Rattle.dh_address.specs.WaysMade.{IsIndexWay, reach_passed}
 
 -- Probes of which the value is taken, which is false.
 
@@ -55,8 +55,8 @@ abbrev pub IsTestBut : (literal : Option ℕ) → (old new : List Operation) →
 IsTestBut None old new k value size test = GrowsPlain old new × MakesTest old new k value size test
 IsTestBut (Some n) old new k value size test = (new ≡ old) × (test ≡ None)
 
-abbrev pub IsTested : Ranged → (old new : List Operation) → (test : Option ℕ) → Type 0
-IsTested r old new test = IsTestBut (below_size r.operand.literal r.size) old new r.operand.kind r.operand.value r.size test
+abbrev pub IsRangeTested : Ranged → (old new : List Operation) → (test : Option ℕ) → Type 0
+IsRangeTested r old new test = IsTestBut (below_size r.operand.literal r.size) old new r.operand.kind r.operand.value r.size test
 
 -- both, where one may lack and then holds
 abbrev pub both_made : List Operation → (guard test : Option ℕ) → Summed
@@ -68,7 +68,7 @@ both_made os (Some guard) (Some test) = sum_of (computed os op.Both guard test)
 abbrev pub IsGuarded : (guard : Option ℕ) → List Ranged → (old new : List Operation) → (on : Option ℕ) → Type 0
 IsGuarded guard [] old new on = (new ≡ old) × (on ≡ guard)
 IsGuarded guard (r ∷ rs) old new on =
-    (mid : List Operation) × ((test : Option ℕ) × (IsTested r old mid test × IsGuarded (both_made mid guard test).sum rs (both_made mid guard test).operations new on))
+    (mid : List Operation) × ((test : Option ℕ) × (IsRangeTested r old mid test × IsGuarded (both_made mid guard test).sum rs (both_made mid guard test).operations new on))
 
 -- a check under a guard, where there is a test
 abbrev pub check_made : List Operation → (guard : Option ℕ) → (fault : ℕ) → (test : Option ℕ) → List Operation
@@ -79,7 +79,7 @@ check_made os guard fault (Some test) = (pushed os guard (Check test fault)).ope
 abbrev pub AreChecked : (guard : Option ℕ) → (fault : ℕ) → List Ranged → (old new : List Operation) → Type 0
 AreChecked guard fault [] old new = new ≡ old
 AreChecked guard fault (r ∷ rs) old new =
-    (mid : List Operation) × ((test : Option ℕ) × (IsTested r old mid test × AreChecked guard fault rs (check_made mid guard fault test) new))
+    (mid : List Operation) × ((test : Option ℕ) × (IsRangeTested r old mid test × AreChecked guard fault rs (check_made mid guard fault test) new))
 
 -- Probes.
 
@@ -102,23 +102,23 @@ abbrev pub false_made : List Operation → (guard : Option ℕ) → (values : Li
 false_made os guard values = false_under guard (false_behind_all (pushed os None (Constant false_word)) values)
 
 -- the indices of an access and the offsets of its views, at the new numbers
-abbrev pub all_taken : Around → Reach → List ℕ
-all_taken a r = map (new_number a) r.indices ++ map (new_number a) (offsets_taken r.steps)
+abbrev pub indices_and_offsets : RenumberedBlock → Reach → List ℕ
+indices_and_offsets a r = map (new_number a) r.indices ++ map (new_number a) (offsets_taken r.steps)
 
 -- all that it takes
-abbrev pub new_takes : Around → Reach → List ℕ
-new_takes a r = all_taken a r ++ (one_or_none (new_or_none a r.select) ++ one_or_none (new_or_none a r.row))
+abbrev pub new_takes : RenumberedBlock → Reach → List ℕ
+new_takes a r = indices_and_offsets a r ++ (one_or_none (new_or_none a r.select) ++ one_or_none (new_or_none a r.row))
 
 -- the value of a probe, which is false; where none is taken there is none, and its number means nothing
-abbrev pub IsProbeValue : (probed : Bool) → Around → (guard : Option ℕ) → Reach → (old new : List Operation) → (number : ℕ) → Type 0
+abbrev pub IsProbeValue : (probed : Bool) → RenumberedBlock → (guard : Option ℕ) → Reach → (old new : List Operation) → (number : ℕ) → Type 0
 IsProbeValue false a guard r old new number = new ≡ old
 IsProbeValue true a guard r old new number = IsMade new number (false_made old guard (new_takes a r))
 
-pub record IsProbed (a : Around) (guard : Option ℕ) (r : Reach) (fault : ℕ) (old new : List Operation) (number : ℕ) : Type 0 where
+pub record IsProbed (a : RenumberedBlock) (guard : Option ℕ) (r : Reach) (fault : ℕ) (old new : List Operation) (number : ℕ) : Type 0 where
   pub passed : List Operation
   pub ranges : List Ranged
   pub indices : List Operand
-  pub passes : IsWay passed ranges indices (reach_passed a r old)
+  pub passes : IsIndexWay passed ranges indices (reach_passed a r old)
   pub checked : List Operation
   pub checks : AreChecked guard fault ranges passed checked
   pub value : IsProbeValue a.probed a guard r checked new number
@@ -126,13 +126,13 @@ pub record IsProbed (a : Around) (guard : Option ℕ) (r : Reach) (fault : ℕ) 
 -- Rows and banks.
 
 -- the access in a row, where these are what else it takes
-abbrev pub aimed : Reach → (taken : List ℕ) → (row : ℕ) → (select : Option ℕ) → Reach
-aimed r taken row select =
+abbrev pub aimed_reach : Reach → (taken : List ℕ) → (row : ℕ) → (select : Option ℕ) → Reach
+aimed_reach r taken row select =
     record { access = r.access; memory = r.memory; indices = taken; steps = []; banks = r.banks; select = select; row = Some row }
 
 -- an access of a row at the new numbers, which stays one
-abbrev pub row_aimed : Around → Reach → (row : ℕ) → Reach
-row_aimed a r row = aimed r (all_taken a r) (new_number a row) (new_or_none a r.select)
+abbrev pub row_aimed : RenumberedBlock → Reach → (row : ℕ) → Reach
+row_aimed a r row = aimed_reach r (indices_and_offsets a r) (new_number a row) (new_or_none a r.select)
 
 -- a row, and behind it the bank where that is wanted
 abbrev pub IsAim : (banked : Bool) → (row bank : Made) → (new : List Operation) → (row_number : ℕ) → (select : Option ℕ) → Type 0
@@ -152,8 +152,8 @@ abbrev pub select_width : List Dim → ℕ
 select_width dims = bits_in (max (banks_of dims % 2 ^ 64 - 1) 1)
 
 -- a bank as a select
-abbrev pub narrowed : (narrow : ℕ) → Made → Made
-narrowed narrow bank = converted bank.operations bank.value narrow
+abbrev pub narrowed_bank : (narrow : ℕ) → Made → Made
+narrowed_bank narrow bank = converted bank.operations bank.value narrow
 
 -- row and bank of indices that are no constants
 pub record IsSpreadOut (width narrow : ℕ) (dims : List Dim) (indices : List ℕ) (banked : Bool) (old new : List Operation) (row : ℕ) (select : Option ℕ) : Type 0 where
@@ -161,7 +161,7 @@ pub record IsSpreadOut (width narrow : ℕ) (dims : List Dim) (indices : List �
   pub values : RowAndBank
   pub grows : GrowsPlain old spread
   pub made : MakesRow old spread width dims indices banked values
-  pub aim : IsAim banked (or_zero spread width values.row) (narrowed narrow (or_zero (or_zero spread width values.row).operations width values.bank)) new row select
+  pub aim : IsAim banked (or_zero spread width values.row) (narrowed_bank narrow (or_zero (or_zero spread width values.row).operations width values.bank)) new row select
 
 -- of constants they are constants
 abbrev pub IsAimBut : (place : Option LiteralPlace) → (width narrow : ℕ) → List Dim → (indices : List ℕ) → (banked : Bool) → (old new : List Operation) → (row : ℕ) → (select : Option ℕ) → Type 0
@@ -170,47 +170,47 @@ IsAimBut (Some place) width narrow dims indices banked old new row select =
     IsAim banked (constant_made old width place.row) (constant_made (constant_made old width place.row).operations narrow place.bank) new row select
 
 -- the values of operands
-abbrev pub values_of : List Operand → List ℕ
-values_of is = map (λ o. o.value) is
+abbrev pub operand_values : List Operand → List ℕ
+operand_values is = map (λ o. o.value) is
 
 -- row and bank of these indices
 abbrev pub IsIndexAim : List Dim → List Operand → (banked : Bool) → (old new : List Operation) → (row : ℕ) → (select : Option ℕ) → Type 0
-IsIndexAim dims is banked old new row select = IsAimBut (literal_places dims is 0 0) (aim_width dims) (select_width dims) dims (values_of is) banked old new row select
+IsIndexAim dims is banked old new row select = IsAimBut (literal_places dims is 0 0) (aim_width dims) (select_width dims) dims (operand_values is) banked old new row select
 
 -- beside indices a select means nothing, but is waited for: as a number of one bit
 abbrev pub waited : List Operation → (select : Option ℕ) → Summed
 waited os None = summed os None
 waited os (Some v) = sum_of (converted os v 1)
 
-pub record IsAimedByIndices (a : Around) (r : Reach) (is : List Operand) (old new : List Operation) (t : Reach) : Type 0 where
+pub record IsAimedByIndices (a : RenumberedBlock) (r : Reach) (is : List Operand) (old new : List Operation) (t : Reach) : Type 0 where
   pub row : ℕ
   pub select : Option ℕ
   pub aim : IsIndexAim (dims_at a.table r.memory) is (is_banked r) (waited old (new_or_none a r.select)).operations new row select
-  pub reach : t ≡ aimed r (all_taken a r ++ one_or_none (waited old (new_or_none a r.select)).sum) row select
+  pub reach : t ≡ aimed_reach r (indices_and_offsets a r ++ one_or_none (waited old (new_or_none a r.select)).sum) row select
 
 -- the access t is of the row of a bank that the access r leads to, behind its views by these indices
-abbrev pub IsAimed : Around → (r : Reach) → (row : Option ℕ) → List Operand → (old new : List Operation) → (t : Reach) → Type 0
-IsAimed a r None is old new t = IsAimedByIndices a r is old new t
-IsAimed a r (Some row) is old new t = (new ≡ old) × (t ≡ row_aimed a r row)
+abbrev pub IsAimedReach : RenumberedBlock → (r : Reach) → (row : Option ℕ) → List Operand → (old new : List Operation) → (t : Reach) → Type 0
+IsAimedReach a r None is old new t = IsAimedByIndices a r is old new t
+IsAimedReach a r (Some row) is old new t = (new ≡ old) × (t ≡ row_aimed a r row)
 
 -- a read or write is put down with this access, under this guard
-pub record IsAccessMade (a : Around) (guard : Option ℕ) (r : Reach) (old last : List Operation) (on : Option ℕ) (t : Reach) : Type 0 where
+pub record IsAccessMade (a : RenumberedBlock) (guard : Option ℕ) (r : Reach) (old last : List Operation) (on : Option ℕ) (t : Reach) : Type 0 where
   pub passed : List Operation
   pub ranges : List Ranged
   pub indices : List Operand
-  pub passes : IsWay passed ranges indices (reach_passed a r old)
+  pub passes : IsIndexWay passed ranges indices (reach_passed a r old)
   pub guarded : List Operation
   pub guards : IsGuarded guard ranges passed guarded on
-  pub aims : IsAimed a r r.row indices guarded last t
+  pub aims : IsAimedReach a r r.row indices guarded last t
 
-pub record IsReadMade (a : Around) (guard : Option ℕ) (r : Reach) (old new : List Operation) (number : ℕ) : Type 0 where
+pub record IsReadMade (a : RenumberedBlock) (guard : Option ℕ) (r : Reach) (old new : List Operation) (number : ℕ) : Type 0 where
   pub last : List Operation
   pub on : Option ℕ
   pub reach : Reach
   pub access : IsAccessMade a guard r old last on reach
   pub read : IsMade new number (pushed last on (Read reach))
 
-pub record IsWriteMade (a : Around) (guard : Option ℕ) (r : Reach) (value : ℕ) (old new : List Operation) (number : ℕ) : Type 0 where
+pub record IsWriteMade (a : RenumberedBlock) (guard : Option ℕ) (r : Reach) (value : ℕ) (old new : List Operation) (number : ℕ) : Type 0 where
   pub last : List Operation
   pub on : Option ℕ
   pub reach : Reach
@@ -219,7 +219,7 @@ pub record IsWriteMade (a : Around) (guard : Option ℕ) (r : Reach) (value : �
 
 -- Operations.
 
-abbrev pub IsFormMade : Around → (guard : Option ℕ) → OperationForm → (old new : List Operation) → (number : ℕ) → Type 0
+abbrev pub IsFormMade : RenumberedBlock → (guard : Option ℕ) → OperationForm → (old new : List Operation) → (number : ℕ) → Type 0
 IsFormMade a g (Constant word) old new n = IsMade new n (pushed old g (Constant word))
 IsFormMade a g (Old register) old new n = IsMade new n (pushed old g (Old register))
 IsFormMade a g (Compute o left right) old new n = IsMade new n (pushed old g (Compute o (new_number a left) (new_number a right)))
@@ -232,5 +232,5 @@ IsFormMade a g (Write r value) old new n = IsWriteMade a g r value old new n
 IsFormMade a g (Set register value) old new n = IsMade new n (pushed old g (Set register (new_number a value)))
 
 -- from the operations `old` to `new` this operation was put down, and n stands for its value
-abbrev pub IsPiece : Around → Operation → (old new : List Operation) → (number : ℕ) → Type 0
+abbrev pub IsPiece : RenumberedBlock → Operation → (old new : List Operation) → (number : ℕ) → Type 0
 IsPiece a o old new n = IsFormMade a (new_or_none a o.guard) o.form old new n

@@ -5,7 +5,7 @@ use Rattle.dh_plan.specs.declared.operations.Operation.{Operation}
 use Rattle.dh_plan.specs.PlanKinds.{form_kind}
 use Rattle.dh_address.specs.declared.ranging.OldBlock.{OldBlock}
 use Rattle.dh_address.specs.declared.renumbering.Renumbering.{Renumbering}
-use Rattle.dh_address.specs.Pieces.{Around, IsPiece}
+use Rattle.dh_address.specs.Pieces.{RenumberedBlock, IsPiece}
 use Rattle.dh_address.specs.Images.{ArePieces}
 use Rattle.dh_address.specs.SeenAround.{around_seen}
 
@@ -18,6 +18,6 @@ pub record KnowsMore (registers : List Kind) (block : OldBlock) (before after : 
   pub kinds : after.kinds ≡ before.kinds ++ form_kind block.table.now registers before.first before.kinds o.form ∷ []
 
 -- all operations of a block are
-pub record HasPieces (registers : List Kind) (a : Around) (old new : List Operation) : Type 0 where
+pub record HasPieces (registers : List Kind) (a : RenumberedBlock) (old new : List Operation) : Type 0 where
   pub numbers : List ℕ
   pub pieces : ArePieces registers a a.operations old new numbers

@@ -16,23 +16,23 @@ use Rattle.dh_rows.specs.declared.spanning.Span.{Span}
 use Rattle.dh_rows.specs.MadeOperations.{Made, Spanned, constant_made, moved, dealt, spanned, moved_width}
 use Rattle.dh_address.specs.declared.operands.Operand.{Operand}
 use Rattle.dh_address.specs.declared.operands.Ranged.{Ranged}
-use Rattle.dh_address.specs.Arounds.{Around, new_number, known_kind}
+use Rattle.dh_address.specs.Arounds.{RenumberedBlock, new_number, known_kind}
 use Rattle.dh_address.specs.LiteralPlaces.{literal_at, whole_at, below_size}
 
 -- Values by which an access names its element.
 
-abbrev pub operand : (literal : Option ℕ) → Kind → (value : ℕ) → Operand
-operand literal k value = record { literal = literal; whole = None; kind = k; value = value }
+abbrev pub new_operand : (literal : Option ℕ) → Kind → (value : ℕ) → Operand
+new_operand literal k value = record { literal = literal; whole = None; kind = k; value = value }
 
 -- a value of the old plan
-abbrev pub operand_of : Around → (value : ℕ) → Operand
+abbrev pub operand_of : RenumberedBlock → (value : ℕ) → Operand
 operand_of a v = record { literal = literal_at a.operations (v - a.first); whole = whole_at a.operations (v - a.first); kind = known_kind a v; value = new_number a v }
 
-abbrev pub ranged : Operand → (size : ℕ) → Ranged
-ranged o size = record { operand = o; size = size }
+abbrev pub ranged_operand : Operand → (size : ℕ) → Ranged
+ranged_operand o size = record { operand = o; size = size }
 
 abbrev pub ranges_by : List Dim → List Operand → List Ranged
-ranges_by (d ∷ ds) (i ∷ is) = ranged i d.size ∷ ranges_by ds is
+ranges_by (d ∷ ds) (i ∷ is) = ranged_operand i d.size ∷ ranges_by ds is
 ranges_by _ _ = []
 
 -- Offsets.
@@ -47,7 +47,7 @@ IsBounded os range m = (os ≡ m.operations) × (range ≡ m.range)
 
 abbrev pub span_range : Option Span → Option Ranged
 span_range None = None
-span_range (Some s) = Some (ranged (operand None s.kind s.value) s.size)
+span_range (Some s) = Some (ranged_operand (new_operand None s.kind s.value) s.size)
 
 abbrev pub bounded_span : Spanned → Bounded
 bounded_span m = record { operations = m.operations; range = span_range m.span }
@@ -66,15 +66,15 @@ offset_bounded os e bound = bounded_unless (is_near e.whole bound) os e bound
 
 -- Indices behind a view.
 
-pub record Placed : Type 0 where
+pub record PlacedOperand : Type 0 where
   pub operations : List Operation
   pub operand : Operand
 
-abbrev pub IsPlaced : List Operation → Operand → Placed → Type 0
-IsPlaced os o m = (os ≡ m.operations) × (o ≡ m.operand)
+abbrev pub IsPlacedOperand : List Operation → Operand → PlacedOperand → Type 0
+IsPlacedOperand os o m = (os ≡ m.operations) × (o ≡ m.operand)
 
-abbrev pub placed_as : (literal : Option ℕ) → (width : ℕ) → Made → Placed
-placed_as literal width m = record { operations = m.operations; operand = operand literal (kind.Unsigned width) m.value }
+abbrev pub placed_as : (literal : Option ℕ) → (width : ℕ) → Made → PlacedOperand
+placed_as literal width m = record { operations = m.operations; operand = new_operand literal (kind.Unsigned width) m.value }
 
 abbrev pub made_or : List Operation → (literal : Option ℕ) → (width : ℕ) → (otherwise : Made) → Made
 made_or os None width m = m
@@ -99,11 +99,11 @@ moved_literal _ _ factor size = None
 abbrev pub moved_made : List Operation → (literal : Option ℕ) → (width factor offset index : ℕ) → Made
 moved_made os literal width factor offset index = made_or os literal width (moved os width factor offset index)
 
-abbrev pub moved_as : (literal : Option ℕ) → List Operation → (width factor offset index : ℕ) → Placed
+abbrev pub moved_as : (literal : Option ℕ) → List Operation → (width factor offset index : ℕ) → PlacedOperand
 moved_as literal os width factor offset index = placed_as literal width (moved_made os literal width factor offset index)
 
 -- a small offset is 0 where the factor is beyond the size: then any multiple will do
-abbrev pub moved_operand : List Operation → (size factor : ℕ) → (offset index : Operand) → Placed
+abbrev pub moved_operand : List Operation → (size factor : ℕ) → (offset index : Operand) → PlacedOperand
 moved_operand os size factor offset index = moved_as (moved_literal offset.whole index.literal factor size) os (moved_width size) (min factor size) offset.value index.value
 
 -- the constant of a copy and a place in it, where both are in range
@@ -117,25 +117,25 @@ dealt_literal copy index copies part = dealt_known (below_size copy copies) (bel
 abbrev pub dealt_made : List Operation → (literal : Option ℕ) → (width copies : ℕ) → Dim → (copy index : ℕ) → Made
 dealt_made os literal width copies part copy index = made_or os literal width (dealt os width copies part copy index)
 
-abbrev pub dealt_as : (literal : Option ℕ) → List Operation → (width copies : ℕ) → Dim → (copy index : ℕ) → Placed
+abbrev pub dealt_as : (literal : Option ℕ) → List Operation → (width copies : ℕ) → Dim → (copy index : ℕ) → PlacedOperand
 dealt_as literal os width copies part copy index = placed_as literal width (dealt_made os literal width copies part copy index)
 
-abbrev pub dealt_operand : List Operation → (size copies : ℕ) → Dim → (copy index : Operand) → Placed
+abbrev pub dealt_operand : List Operation → (size copies : ℕ) → Dim → (copy index : Operand) → PlacedOperand
 dealt_operand os size copies part copy index = dealt_as (dealt_literal copy.literal index.literal copies part) os (moved_width size) copies part copy.value index.value
 
 -- Ways.
 
 -- operations, what is to be in range, and indices
-pub record Way : Type 0 where
+pub record IndexWay : Type 0 where
   pub operations : List Operation
   pub ranges : List Ranged
   pub indices : List Operand
 
-abbrev pub way : List Operation → List Ranged → List Operand → Way
+abbrev pub way : List Operation → List Ranged → List Operand → IndexWay
 way os ranges indices = record { operations = os; ranges = ranges; indices = indices }
 
-abbrev pub IsWay : List Operation → List Ranged → List Operand → Way → Type 0
-IsWay os ranges indices w = (os ≡ w.operations) × ((ranges ≡ w.ranges) × (indices ≡ w.indices))
+abbrev pub IsIndexWay : List Operation → List Ranged → List Operand → IndexWay → Type 0
+IsIndexWay os ranges indices w = (os ≡ w.operations) × ((ranges ≡ w.ranges) × (indices ≡ w.indices))
 
 abbrev pub maybe_range : Option Ranged → List Ranged
 maybe_range None = []
@@ -143,22 +143,22 @@ maybe_range (Some r) = r ∷ []
 
 -- Of a view that moves, dimension by dimension.
 
-abbrev pub moved_last : Way → Option Ranged → Placed → Way
+abbrev pub moved_last : IndexWay → Option Ranged → PlacedOperand → IndexWay
 moved_last w range m = way m.operations (w.ranges ++ maybe_range range) (w.indices ++ m.operand ∷ [])
 
-abbrev pub moved_next : (size factor : ℕ) → (offset index : Operand) → Way → Bounded → Way
+abbrev pub moved_next : (size factor : ℕ) → (offset index : Operand) → IndexWay → Bounded → IndexWay
 moved_next size factor offset index w b = moved_last w b.range (moved_operand b.operations size factor offset index)
 
-abbrev pub moved_one : (size factor : ℕ) → (offset index : Operand) → Way → Way
+abbrev pub moved_one : (size factor : ℕ) → (offset index : Operand) → IndexWay → IndexWay
 moved_one size factor offset index w = moved_next size factor offset index w (offset_bounded w.operations offset ((size - 1) / factor))
 
-abbrev pub moved_all : List Dim → (factors : List ℕ) → (offsets indices : List Operand) → Way → Way
+abbrev pub moved_all : List Dim → (factors : List ℕ) → (offsets indices : List Operand) → IndexWay → IndexWay
 moved_all (d ∷ ds) (k ∷ ks) (e ∷ es) (i ∷ is) w = moved_all ds ks es is (moved_one d.size k e i w)
 moved_all _ _ _ _ w = w
 
 -- a shift has no factors
-abbrev pub ones : List Dim → List ℕ
-ones dims = map (λ d. 1) dims
+abbrev pub unit_factors : List Dim → List ℕ
+unit_factors dims = map (λ d. 1) dims
 
 -- Of a split.
 
@@ -166,7 +166,7 @@ pub record Dealt : Type 0 where
   pub operations : List Operation
   pub indices : List Operand
 
-abbrev pub dealt_one : Placed → Dealt
+abbrev pub dealt_one : PlacedOperand → Dealt
 dealt_one m = record { operations = m.operations; indices = m.operand ∷ [] }
 
 abbrev pub IsDealt : Dealt → List Operation → List Operand → Type 0
@@ -190,39 +190,39 @@ view_dealt _ _ parent is os = none_dealt os
 abbrev pub split_made : (view parent : List Dim) → List Operand → List Operation → Dealt
 split_made view parent is os = view_dealt (slice_get view 0) (slice_get view 1) parent is os
 
-abbrev pub dealt_way : List Ranged → Dealt → Way
+abbrev pub dealt_way : List Ranged → Dealt → IndexWay
 dealt_way ranges m = way m.operations ranges m.indices
 
 -- Of any view: behind what is to be in range so far.
 
-abbrev pub passed_by : ViewSort → ViewMap → (offsets indices : List Operand) → List Operation → List Ranged → Way
+abbrev pub passed_by : ViewSort → ViewMap → (offsets indices : List Operand) → List Operation → List Ranged → IndexWay
 passed_by Shrink v es is os ranges = way os ranges is
 passed_by Split v es is os ranges = dealt_way ranges (split_made v.shape.dims v.parent.dims is os)
 passed_by Suffix v es is os ranges = moved_all v.parent.dims v.by es is (way os ranges [])
-passed_by Shift v es is os ranges = moved_all v.parent.dims (ones v.parent.dims) es is (way os ranges [])
+passed_by Shift v es is os ranges = moved_all v.parent.dims (unit_factors v.parent.dims) es is (way os ranges [])
 
-abbrev pub passed_if : Option ViewMap → (offsets : List Operand) → Way → Way
+abbrev pub passed_if : Option ViewMap → (offsets : List Operand) → IndexWay → IndexWay
 passed_if None es w = w
 passed_if (Some v) es w = passed_by v.sort v es w.indices w.operations (w.ranges ++ ranges_by v.shape.dims w.indices)
 
-abbrev pub step_passed : Around → ReachStep → Way → Way
+abbrev pub step_passed : RenumberedBlock → ReachStep → IndexWay → IndexWay
 step_passed a s w = passed_if (slice_get a.views s.view) (map (operand_of a) s.offsets) w
 
-abbrev pub steps_passed : Around → List ReachStep → Way → Way
+abbrev pub steps_passed : RenumberedBlock → List ReachStep → IndexWay → IndexWay
 steps_passed a [] w = w
 steps_passed a (s ∷ ss) w = steps_passed a ss (step_passed a s w)
 
 -- in the end the indices of the memory are to be in range
-abbrev pub with_ranges : List Dim → Way → Way
+abbrev pub with_ranges : List Dim → IndexWay → IndexWay
 with_ranges dims w = way w.operations (w.ranges ++ ranges_by dims w.indices) w.indices
 
-abbrev pub way_begun : Around → Reach → List Operation → Way
+abbrev pub way_begun : RenumberedBlock → Reach → List Operation → IndexWay
 way_begun a r os = way os [] (map (operand_of a) r.indices)
 
-abbrev pub passed_to : Around → Reach → (row : Option ℕ) → List Operation → Way
+abbrev pub passed_to : RenumberedBlock → Reach → (row : Option ℕ) → List Operation → IndexWay
 passed_to a r None os = with_ranges (dims_at a.table r.memory) (steps_passed a r.steps (way_begun a r os))
-passed_to a r (Some row) os = way os (ranged (operand_of a row) (rows_of (dims_at a.table r.memory) % 2 ^ 64) ∷ []) []
+passed_to a r (Some row) os = way os (ranged_operand (operand_of a row) (rows_of (dims_at a.table r.memory) % 2 ^ 64) ∷ []) []
 
 -- of an access
-abbrev pub reach_passed : Around → Reach → List Operation → Way
+abbrev pub reach_passed : RenumberedBlock → Reach → List Operation → IndexWay
 reach_passed a r os = passed_to a r r.row os

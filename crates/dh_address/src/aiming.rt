@@ -5,7 +5,7 @@ ghost use Rattle.std.specs.List.{AllByRecursion};
 ghost use Rattle.dh_tree.specs.Elements.{dims_at};
 ghost use Rattle.dh_tree.specs.Shapes.{IsDim, IsProgramTable};
 ghost use Rattle.dh_rows.specs.MadeOperations.{IsMade, IsSummed, constant_made, or_zero};
-ghost use Rattle.dh_address.specs.Pieces.{IsAim, IsAimed, IsAimedByIndices, IsIndexAim, IsSpreadOut, aimed, is_banked, narrowed, row_aimed, select_width, waited};
+ghost use Rattle.dh_address.specs.Pieces.{IsAim, IsAimedReach, IsAimedByIndices, IsIndexAim, IsSpreadOut, aimed_reach, is_banked, narrowed_bank, row_aimed, select_width, waited};
 ghost use Rattle.dh_address.specs.SeenAround.{around_seen};
 
 use crate::literals::{LiteralPlace, constant_place};
@@ -62,7 +62,7 @@ fn push_select(
     bank: Option<u64>,
 ) -> Result<u64, NoMemory>
     ensures { IfOk result (λ n. IsMade list.new n
-        (narrowed narrow (or_zero list.old width bank))) }
+        (narrowed_bank narrow (or_zero list.old width bank))) }
 {
     let bank = push_or_zero(list, width, bank)?;
     push_convert(list, bank, narrow)
@@ -131,7 +131,7 @@ fn aimed(
     indices: Items<u64>,
     aim: Aim,
 ) -> Result<ApartReach, NoMemory>
-    ensures { IfOk result (λ t. t ≡ aimed reach.now indices aim.row aim.select) }
+    ensures { IfOk result (λ t. t ≡ aimed_reach reach.now indices aim.row aim.select) }
 {
     let aimed = Reach {
         access: reach.access,
@@ -190,7 +190,7 @@ pub fn aim_reach(
     indices: &[Operand],
 ) -> Result<ApartReach, NoMemory>
     requires { IsProgramTable old.now.table.now }
-    ensures { IfOk result (IsAimed (around_seen old.now known.now) reach.now reach.now.row
+    ensures { IfOk result (IsAimedReach (around_seen old.now known.now) reach.now reach.now.row
         indices.now list.old list.new) }
 {
     match reach.row {

@@ -1,7 +1,7 @@
 //! The blocks of a plan, cut out of the list of all operations.
 
 ghost use Rattle.std.specs.Prelude.{◌≡◌, IfOk, length};
-ghost use Rattle.dh_address.specs.Cuts.{AreStarts, IsCut};
+ghost use Rattle.dh_address.specs.Cuts.{AreStarts, IsCutIntoBlocks};
 
 use dh_base::{Items, NoMemory};
 use dh_plan::{Operation, PlanBlock};
@@ -13,7 +13,7 @@ pub fn cut_blocks(
     mut operations: Vec<Operation>,
     starts: &[usize],
 ) -> Result<Items<PlanBlock>, NoMemory>
-    ensures { IfOk result (IsCut operations.items starts.now) }
+    ensures { IfOk result (IsCutIntoBlocks operations.items starts.now) }
 {
     let mut blocks = Vec::new(alloc);
     for i in (0..starts.len()).rev() {

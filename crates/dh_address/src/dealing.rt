@@ -4,7 +4,7 @@ ghost use Rattle.std.specs.Prelude.{◌≡◌, IfOk};
 ghost use Rattle.std.specs.List.{AllByRecursion};
 ghost use Rattle.dh_tree.specs.Shapes.{IsDim};
 ghost use Rattle.dh_rows.specs.MadeOperations.{IsMade};
-ghost use Rattle.dh_address.specs.WaysMade.{IsDealt, IsPlaced, dealt_as, dealt_literal, dealt_made, dealt_one, dealt_operand, share_dealt, split_made};
+ghost use Rattle.dh_address.specs.WaysMade.{IsDealt, IsPlacedOperand, dealt_as, dealt_literal, dealt_made, dealt_one, dealt_operand, share_dealt, split_made};
 
 use crate::literals::known_below;
 use crate::numbers::{quotient, remainder};
@@ -65,7 +65,7 @@ fn deal_as(
     index: u64,
 ) -> Result<Operand, NoMemory>
     requires { IsDim part }
-    ensures { IfOk result (λ o. IsPlaced list.new o
+    ensures { IfOk result (λ o. IsPlacedOperand list.new o
         (dealt_as literal list.old width copies part copy index)) }
 {
     let value = push_dealt_or(list, literal, width, copies, part, copy, index)?;
@@ -87,7 +87,7 @@ fn deal_operand(
     index: Operand,
 ) -> Result<Operand, NoMemory>
     requires { IsDim part }
-    ensures { IfOk result (λ o. IsPlaced list.new o
+    ensures { IfOk result (λ o. IsPlacedOperand list.new o
         (dealt_operand list.old size copies part copy index)) }
 {
     let literal = dealt_literal(copy.literal, index.literal, copies, part);

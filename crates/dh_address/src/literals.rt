@@ -2,7 +2,7 @@
 
 ghost use Rattle.std.specs.Prelude.{◌≡◌, ◌≤◌, ◌-◌, ◌^◌, None, nat_lt, slice_get};
 ghost use Rattle.dh_value.specs.Words.{signed};
-ghost use Rattle.dh_address.specs.LiteralPlaces.{below_size, constant_in, literal_at, literal_places, natural, whole, whole_at};
+ghost use Rattle.dh_address.specs.LiteralPlaces.{below_size, constant_in, literal_at, literal_places, natural, whole_of_word, whole_at};
 
 use crate::numbers::{quotient, remainder};
 use crate::operands::Operand;
@@ -58,7 +58,7 @@ fn signed_of(bits: u64, width: u8) -> i128
 
 /// A word's value, of whatever sign, if it is a number.
 fn whole_of(word: Word) -> Option<i128>
-    ensures { result ≡ whole word }
+    ensures { result ≡ whole_of_word word }
 {
     match word.kind {
         Kind::Bool => None,

@@ -2,7 +2,7 @@
 
 ghost use Rattle.std.specs.Prelude.{◌≡◌, ◌++◌, ◌-◌, IfOk, OnOk};
 ghost use Rattle.dh_rows.specs.MadeOperations.{IsMade};
-ghost use Rattle.dh_address.specs.WaysMade.{IsBounded, IsPlaced, IsWay, index_moved, is_near, maybe_range, moved_all, moved_as, moved_literal, moved_made, moved_one, moved_operand, offset_bounded, ones, steps_by, way};
+ghost use Rattle.dh_address.specs.WaysMade.{IsBounded, IsPlacedOperand, IsIndexWay, index_moved, is_near, maybe_range, moved_all, moved_as, moved_literal, moved_made, moved_one, moved_operand, offset_bounded, unit_factors, steps_by, way};
 
 use crate::literals::known_below;
 use crate::numbers::quotient;
@@ -117,7 +117,7 @@ fn move_as(
     offset: u64,
     index: u64,
 ) -> Result<Operand, NoMemory>
-    ensures { IfOk result (λ o. IsPlaced list.new o
+    ensures { IfOk result (λ o. IsPlacedOperand list.new o
         (moved_as literal list.old width factor offset index)) }
 {
     let value = push_moved_or(list, literal, width, factor, offset, index)?;
@@ -137,7 +137,7 @@ fn move_operand(
     offset: Operand,
     index: Operand,
 ) -> Result<Operand, NoMemory>
-    ensures { IfOk result (λ o. IsPlaced list.new o
+    ensures { IfOk result (λ o. IsPlacedOperand list.new o
         (moved_operand list.old size factor offset index)) }
 {
     let literal = moved_literal(offset.whole, index.literal, factor, size);
@@ -171,7 +171,7 @@ fn move_one(
     ranges: &mut Items<Ranged>,
     moved: &mut Items<Operand>,
 ) -> Result<(), NoMemory>
-    ensures { OnOk result (IsWay list.new ranges.new moved.new
+    ensures { OnOk result (IsIndexWay list.new ranges.new moved.new
         (moved_one size factor offset index (way list.old ranges.old moved.old))) }
 {
     let range = push_bounded(list, offset, quotient(size.saturating_sub(1), factor))?;
@@ -191,7 +191,7 @@ pub fn move_all(
     ranges: &mut Items<Ranged>,
     moved: &mut Items<Operand>,
 ) -> Result<(), NoMemory>
-    ensures { OnOk result (IsWay list.new ranges.new moved.new
+    ensures { OnOk result (IsIndexWay list.new ranges.new moved.new
         (moved_all dims.now factors.now offsets.now indices.now
         (way list.old ranges.old moved.old))) }
 {
@@ -213,7 +213,7 @@ pub fn move_all(
 
 /// A factor of 1 for each dimension.
 pub fn ones_of(alloc: Global, dims: &[Dim]) -> Result<Items<u64>, NoMemory>
-    ensures { IfOk result (λ factors. factors ≡ ones dims.now) }
+    ensures { IfOk result (λ factors. factors ≡ unit_factors dims.now) }
 {
     let mut factors = Items::new(alloc);
     for _dim in dims {

@@ -1,7 +1,7 @@
 //! Values by which an access names its element, at their new numbers.
 
 ghost use Rattle.std.specs.Prelude.{◌≡◌, ◌++◌, IfOk, OnOk, map};
-ghost use Rattle.dh_address.specs.Pieces.{values_of};
+ghost use Rattle.dh_address.specs.Pieces.{operand_values};
 ghost use Rattle.dh_address.specs.SeenAround.{around_seen};
 ghost use Rattle.dh_address.specs.WaysMade.{operand_of, ranges_by};
 
@@ -66,7 +66,7 @@ pub fn operands_of(
 
 /// The numbers of operands.
 pub fn values_of(alloc: Global, operands: &[Operand]) -> Result<Items<u64>, NoMemory>
-    ensures { IfOk result (λ values. values ≡ values_of operands.now) }
+    ensures { IfOk result (λ values. values ≡ operand_values operands.now) }
 {
     let mut values = Items::new(alloc);
     for operand in operands {

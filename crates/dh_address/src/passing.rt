@@ -4,8 +4,8 @@ ghost use Rattle.std.specs.Prelude.{◌≡◌, [], IfOk, None};
 ghost use Rattle.std.specs.List.{AllByRecursion};
 ghost use Rattle.dh_tree.specs.Shapes.{IsDim};
 ghost use Rattle.dh_tree.specs.ViewShapes.{IsViewMap};
-ghost use Rattle.dh_address.specs.SeenAround.{IsPassed, IsPassedTo, IsRowPassed, around_seen};
-ghost use Rattle.dh_address.specs.WaysMade.{IsWay, moved_all, ones, passed_by, step_passed, steps_passed, way};
+ghost use Rattle.dh_address.specs.SeenAround.{IsReachPassed, IsPassedTo, IsRowPassed, around_seen};
+ghost use Rattle.dh_address.specs.WaysMade.{IsIndexWay, moved_all, unit_factors, passed_by, step_passed, steps_passed, way};
 
 use crate::dealing::deal_all;
 use crate::moving::{move_all, ones_of};
@@ -37,7 +37,7 @@ fn pass_moving(
     indices: &[Operand],
     ranges: &mut Items<Ranged>,
 ) -> Result<Items<Operand>, NoMemory>
-    ensures { IfOk result (λ moved. IsWay list.new ranges.new moved
+    ensures { IfOk result (λ moved. IsIndexWay list.new ranges.new moved
         (moved_all view.now.parent.dims factors.now offsets.now indices.now
         (way list.old ranges.old []))) }
 {
@@ -63,8 +63,8 @@ fn pass_shift(
     indices: &[Operand],
     ranges: &mut Items<Ranged>,
 ) -> Result<Items<Operand>, NoMemory>
-    ensures { IfOk result (λ moved. IsWay list.new ranges.new moved
-        (moved_all view.now.parent.dims (ones view.now.parent.dims) offsets.now indices.now
+    ensures { IfOk result (λ moved. IsIndexWay list.new ranges.new moved
+        (moved_all view.now.parent.dims (unit_factors view.now.parent.dims) offsets.now indices.now
         (way list.old ranges.old []))) }
 {
     let factors = ones_of(alloc, view.parent.dims.as_slice())?;
@@ -89,7 +89,7 @@ fn pass_view(
     ranges: &mut Items<Ranged>,
 ) -> Result<Items<Operand>, NoMemory>
     requires { AllByRecursion IsDim view.now.shape.dims }
-    ensures { IfOk result (λ inner. IsWay list.new ranges.new inner
+    ensures { IfOk result (λ inner. IsIndexWay list.new ranges.new inner
         (passed_by view.now.sort view.now offsets.now indices.now list.old ranges.old)) }
 {
     match view.sort {
@@ -124,7 +124,7 @@ fn pass_step(
     ranges: &mut Items<Ranged>,
 ) -> Result<Items<Operand>, NoMemory>
     requires { AllByRecursion IsViewMap old.now.views.now }
-    ensures { IfOk result (λ inner. IsWay list.new ranges.new inner
+    ensures { IfOk result (λ inner. IsIndexWay list.new ranges.new inner
         (step_passed (around_seen old.now known.now) step.now (way list.old ranges.old indices))) }
 {
     let Some(view) = old.views.get(step.view as usize) else {
@@ -152,7 +152,7 @@ fn pass_steps(
     ranges: &mut Items<Ranged>,
 ) -> Result<Items<Operand>, NoMemory>
     requires { AllByRecursion IsViewMap old.now.views.now }
-    ensures { IfOk result (λ inner. IsWay list.new ranges.new inner
+    ensures { IfOk result (λ inner. IsIndexWay list.new ranges.new inner
         (steps_passed (around_seen old.now known.now) steps.now
         (way list.old ranges.old indices))) }
 {
@@ -211,7 +211,7 @@ pub fn pass_reach(
     reach: &Reach,
 ) -> Result<Passed, NoMemory>
     requires { AllByRecursion IsViewMap old.now.views.now }
-    ensures { IfOk result (IsPassed (around_seen old.now known.now) reach.now
+    ensures { IfOk result (IsReachPassed (around_seen old.now known.now) reach.now
         list.old list.new) }
 {
     match reach.row {

@@ -4,7 +4,7 @@ ghost use Rattle.std.specs.Prelude.{◌≡◌, ◌%◌, ◌^◌, IfOk, OnOk};
 ghost use Rattle.dh_tree.specs.Elements.{banks_of, dims_at, rows_of};
 ghost use Rattle.dh_tree.specs.Tables.{elements_of};
 ghost use Rattle.dh_rows.specs.MadeOperations.{IsSummed};
-ghost use Rattle.dh_address.specs.Pieces.{AreChecked, IsGuarded, IsTested, both_made, check_made};
+ghost use Rattle.dh_address.specs.Pieces.{AreChecked, IsGuarded, IsRangeTested, both_made, check_made};
 ghost use Rattle.dh_address.specs.SeenAround.{IsCheckedOne, IsGuardedOne};
 
 use crate::literals::known_below;
@@ -77,7 +77,7 @@ pub fn bank_total(dims: &[Dim]) -> u64
 
 /// Adds whether a value is from 0 on and below a size; None where it always is.
 fn test_value(list: &mut OperationList, range: Ranged) -> Result<Option<u64>, NoMemory>
-    ensures { IfOk result (λ t. IsTested range list.old list.new t) }
+    ensures { IfOk result (λ t. IsRangeTested range list.old list.new t) }
 {
     match known_below(range.operand.literal, range.size) {
         Some(_) => Ok(None),

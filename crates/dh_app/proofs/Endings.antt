@@ -3,11 +3,11 @@ use Rattle.std.proofs.Common.{◌≡◌, ℕ, ◌<◌, ◌⊎◌, List, Option, 
 use Rattle.dh_base.specs.Outside.{SinkSeen, Rose, Grew}
 use Rattle.dh_base.specs.declared.statuses.Status.{Status}
 use Rattle.dh_base.specs.declared.statuses.Status.TheVariants as status
-use Rattle.dh_app.specs.Ends.{WritesAll, Ends}
+use Rattle.dh_app.specs.Ends.{WritesWholeAnswer, CallEnds}
 use Rattle.dh_app.specs.Inputs.{InputsSeen}
 use Rattle.dh_app.specs.Jobs.{Comes}
 use Rattle.dh_app.specs.Parts.{Written}
-use Rattle.dh_app.specs.Promises.{CountsFaults, Touches, NoFaults, IsThere, FilesAre, AnswersWhole, MayDiffer, Succeeds, HasOneAnswer}
+use Rattle.dh_app.specs.Promises.{CountsFaults, TouchesInputs, NoFaults, IsPresentFile, FilesAre, AnswersWhole, MayDiffer, Succeeds, HasOneAnswer}
 use Rattle.dh_app.specs.Replies.{ReplySeen, replied, unread, no_memory}
 use Rattle.dh_app.specs.Words.{job_of}
 use Rattle.dh_app.specs.declared.replies.Answer.{Answer}
@@ -21,7 +21,7 @@ module _ (words : List (List ℕ)) (old new : InputsSeen) (before after : SinkSe
   left : (r : ReplySeen) → Comes words old new r → JobLeft words old new (job_of words) r
   left r h = all_left words old new (job_of words) r h.comes
 
-  whole : (s : Status) → IsShown s → WritesAll words old new before after s → Ends words old new before after s
+  whole : (s : Status) → IsShown s → WritesWholeAnswer words old new before after s → CallEnds words old new before after s
   whole status.Done h w = w
   whole status.Refused h w = w
   whole status.Usage h w = w
@@ -34,15 +34,15 @@ module _ (words : List (List ℕ)) (old new : InputsSeen) (before after : SinkSe
   whole status.WriteFault h w = absurd h
   whole status.NoMemory h w = absurd h
 
-  pub written : (a : Answer) (s : Status) → Comes words old new (replied a.status a.text.items) → Written before after a s → Ends words old new before after s
+  pub written : (a : Answer) (s : Status) → Comes words old new (replied a.status a.text.items) → Written before after a s → CallEnds words old new before after s
   written a s h (inl (e, (grew, (f, k)))) =
-      let P : Status → Type 0 = λ x. Ends words old new before after x in
+      let P : Status → Type 0 = λ x. CallEnds words old new before after x in
       subst P (sym e) (whole a.status (left (replied a.status a.text.items) h).shows (record { text = a.text.items; answer = h; grew = grew; faults = f; refusals = k }))
   written a s h (inr (inl (e, (grew, (f, k))))) =
-      let P : Status → Type 0 = λ x. Ends words old new before after x in
+      let P : Status → Type 0 = λ x. CallEnds words old new before after x in
       subst P (sym e) (record { part = record { status_meant = a.status; text = a.text.items; answer = h; grew = grew }; faults = f; refusals = k })
   written a s h (inr (inr (e, (grew, (f, k))))) =
-      let P : Status → Type 0 = λ x. Ends words old new before after x in
+      let P : Status → Type 0 = λ x. CallEnds words old new before after x in
       subst P (sym e) (inr (record { part = record { status_meant = a.status; text = a.text.items; answer = h; grew = grew }; faults = f; refusals = k }))
 
   -- ---- back to it
@@ -58,10 +58,10 @@ module _ (words : List (List ℕ)) (old new : InputsSeen) (before after : SinkSe
     comes : Comes words old new reply
     how : IsHow reply s
 
-  shown : (s : Status) → WritesAll words old new before after s → Reached s
+  shown : (s : Status) → WritesWholeAnswer words old new before after s → Reached s
   shown s w = record { reply = replied s w.text; comes = w.answer; how = inl (refl, (w.grew, w.faults)) }
 
-  reached : (s : Status) → Ends words old new before after s → Reached s
+  reached : (s : Status) → CallEnds words old new before after s → Reached s
   reached status.Done w = shown status.Done w
   reached status.Refused w = shown status.Refused w
   reached status.Usage w = shown status.Usage w
@@ -87,13 +87,13 @@ module _ (words : List (List ℕ)) (old new : InputsSeen) (before after : SinkSe
   counted unread s c h = record { reading = λ l. h.0; writing = λ l. absurd (no_rise before.faults after.faults h.1 l) }
   counted no_memory s c h = record { reading = λ l. absurd (no_rise old.files.faults new.files.faults c l); writing = λ l. absurd (no_rise before.faults after.faults h.1 l) }
 
-  pub counts_faults : (s : Status) → Ends words old new before after s → CountsFaults old.files new.files before after s
+  pub counts_faults : (s : Status) → CallEnds words old new before after s → CountsFaults old.files new.files before after s
   counts_faults s e = let h = reached s e in counted h.reply s (left h.reply h.comes).calm h.how
 
-  pub touches : (s : Status) → Ends words old new before after s → Touches words old new
+  pub touches : (s : Status) → CallEnds words old new before after s → TouchesInputs words old new
   touches s e = let h = reached s e in let l = left h.reply h.comes in record { reads = l.reads; asks = l.asks }
 
-  answered : (r : ReplySeen) (s : Status) → NoFaults old.files new.files before after → FilesAre IsThere words old.files (job_of words) → Comes words old new r → IsHow r s
+  answered : (r : ReplySeen) (s : Status) → NoFaults old.files new.files before after → FilesAre IsPresentFile words old.files (job_of words) → Comes words old new r → IsHow r s
       → (s ≡ status.NoMemory) ⊎ AnswersWhole words old new before after s
   answered (replied t text) s calm files h (inl w) =
       let P : Status → Type 0 = λ x. Comes words old new (replied x text) in
@@ -103,7 +103,7 @@ module _ (words : List (List ℕ)) (old new : InputsSeen) (before after : SinkSe
   answered unread s calm files h w = absurd (all_had words old new (job_of words) calm.reading files h.comes)
   answered no_memory s calm files h w = inl w.0
 
-  pub succeeds : (s : Status) → Ends words old new before after s → Succeeds words old new before after s
+  pub succeeds : (s : Status) → CallEnds words old new before after s → Succeeds words old new before after s
   succeeds s e calm files = let h = reached s e in answered h.reply s calm files h.comes h.how
 
   same_text : (text other : List ℕ) (o : Option Job) (t s : Status) → s ≡ t → MayDiffer o t ⊎ (text ≡ other) → Grew before after text → MayDiffer o s ⊎ Grew before after other
@@ -123,7 +123,7 @@ module _ (words : List (List ℕ)) (old new : InputsSeen) (before after : SinkSe
   only_fault unread s a w = inr w.0
   only_fault no_memory s a w = inl w.0
 
-  pub one_answer : (s : Status) → Ends words old new before after s → HasOneAnswer words old new before after s
+  pub one_answer : (s : Status) → CallEnds words old new before after s → HasOneAnswer words old new before after s
   one_answer s e calm told =
       let h = reached s e in
       record {

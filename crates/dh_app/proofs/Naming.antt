@@ -2,7 +2,7 @@
 use Rattle.std.proofs.Common.{◌≡◌, ℕ, ◌<◌, ◌≤◌, ◌&&◌, Bool, true, false, if◌then◌else◌, List, [], ◌∷◌, length, map, get_or, codes, Option, Some, None, sym, ap, subst, zero, suc, arith}
 use Rattle.std.specs.Str.{bytes_eq}
 use Rattle.std.proofs.lemmas.List.{length-map}
-use Rattle.dh_app.specs.Words.{is_file_word, usual_steps, usual_clocks, steps_of, over_file, interpret_for, interpret_with, simulate_for, simulate_with, over_data, job_of}
+use Rattle.dh_app.specs.Words.{is_file_word, usual_steps, usual_clocks, steps_in_word, over_file, interpret_for, interpret_with, simulate_for, simulate_with, over_data, job_of}
 use Rattle.dh_app.specs.Asking.{file_at, data_at}
 use Rattle.dh_app.specs.declared.words.Job.{Job}
 use Rattle.dh_app.specs.declared.words.Job.TheVariants.{Check, Lower, Interpret, Simulate}
@@ -40,10 +40,10 @@ for_steps unchecked (Some steps) n l = (omega (arith, l), omega (arith, l))
 with_options : (options : List (List ℕ)) (n : ℕ) → 3 ≤ n → WithinAll (interpret_with options) n
 with_options [] n l = for_steps false (Some usual_steps) n l
 with_options (a ∷ []) n l = either (bytes_eq a (codes "--unchecked")) _ _ n (for_steps true (Some usual_steps) n l) tt
-with_options (a ∷ (b ∷ [])) n l = either (bytes_eq a (codes "--steps")) _ _ n (for_steps false (steps_of b) n l) tt
+with_options (a ∷ (b ∷ [])) n l = either (bytes_eq a (codes "--steps")) _ _ n (for_steps false (steps_in_word b) n l) tt
 with_options (a ∷ (b ∷ (c ∷ []))) n l =
-    either (bytes_eq a (codes "--unchecked") && bytes_eq b (codes "--steps")) _ _ n (for_steps true (steps_of c) n l)
-    (either (bytes_eq a (codes "--steps") && bytes_eq c (codes "--unchecked")) _ _ n (for_steps true (steps_of b) n l) tt)
+    either (bytes_eq a (codes "--unchecked") && bytes_eq b (codes "--steps")) _ _ n (for_steps true (steps_in_word c) n l)
+    (either (bytes_eq a (codes "--steps") && bytes_eq c (codes "--unchecked")) _ _ n (for_steps true (steps_in_word b) n l) tt)
 with_options (a ∷ (b ∷ (c ∷ (d ∷ more)))) n l = tt
 
 for_clocks : (clocks : Option ℕ) (n : ℕ) → 3 ≤ n → WithinAll (simulate_for clocks) n
@@ -53,7 +53,7 @@ for_clocks (Some clocks) n l = (omega (arith, l), omega (arith, l))
 clock_options : (options : List (List ℕ)) (n : ℕ) → 3 ≤ n → WithinAll (simulate_with options) n
 clock_options [] n l = for_clocks (Some usual_clocks) n l
 clock_options (a ∷ []) n l = tt
-clock_options (a ∷ (b ∷ [])) n l = either (bytes_eq a (codes "--clocks")) _ _ n (for_clocks (steps_of b) n l) tt
+clock_options (a ∷ (b ∷ [])) n l = either (bytes_eq a (codes "--clocks")) _ _ n (for_clocks (steps_in_word b) n l) tt
 clock_options (a ∷ (b ∷ (c ∷ more))) n l = tt
 
 over_two : (command : List ℕ) (options : List (List ℕ)) (n : ℕ) → 3 ≤ n → WithinAll (over_data command options) n

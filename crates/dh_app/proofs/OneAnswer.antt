@@ -16,7 +16,7 @@ use Rattle.dh_data.specs.DataFiles.{Means}
 use Rattle.dh_data.specs.declared.data_files.DataFault.{DataFault}
 use Rattle.dh_app.specs.Inputs.{InputsSeen}
 use Rattle.dh_app.specs.Lines.{too_large_line, bad_data_line}
-use Rattle.dh_app.specs.Promises.{IsTold}
+use Rattle.dh_app.specs.Promises.{IsToldFile}
 use Rattle.dh_app.specs.Replies.{ReplySeen, replied, unread, no_memory}
 use Rattle.dh_app.specs.Sources.{MayRead, FailsToRead, NoFile, ProgramStage, DataStage, IsRefusal, verdict_status, verdict_line}
 
@@ -32,12 +32,12 @@ absent_held Untold bytes a h = a
 absent_held Absent bytes a h = h
 absent_held (Holds held) bytes a h = a
 
-long_held : (t : Told) (most : ℕ) (bytes : List ℕ) → IsTold t → MayExceed t most → MayBe t bytes → length bytes ≤ most → ⊥
+long_held : (t : Told) (most : ℕ) (bytes : List ℕ) → IsToldFile t → MayExceed t most → MayBe t bytes → length bytes ≤ most → ⊥
 long_held Untold most bytes told l h k = told
 long_held Absent most bytes told l h k = l
 long_held (Holds held) most bytes told l h k = let e = ap length h in omega (arith, l, e, k)
 
-same_held : (t : Told) (a b : List ℕ) → IsTold t → MayBe t a → MayBe t b → a ≡ b
+same_held : (t : Told) (a b : List ℕ) → IsToldFile t → MayBe t a → MayBe t b → a ≡ b
 same_held Untold a b told h k = absurd told
 same_held Absent a b told h k = absurd h
 same_held (Holds held) a b told h k = sym h ∙ k
@@ -97,7 +97,7 @@ record Stage (V : Type 0) (files : FilesSeen) (name : List ℕ) (l : Limit) (Mea
   answered : Answered V l rest found r
 
 module _ (V : Type 0) (files : FilesSeen) (name : List ℕ) (l : Limit) (Meaning : List ℕ → V → Type 0) (one : (bytes : List ℕ) (v w : V) → Meaning bytes v → Meaning bytes w → v ≡ w)
-    (told : IsTold (files.told name)) where
+    (told : IsToldFile (files.told name)) where
   one_so : (a b : Found V) → IsSo V files name l Meaning a → IsSo V files name l Meaning b → a ≡ b
   one_so absent absent h k = refl
   one_so absent long h k = absurd (absent_long (files.told name) (greatest_of l) h k)
@@ -168,7 +168,7 @@ program_stage old new ports file rest no_memory calm (inl (inr h, idle)) = inr r
 program_stage old new ports file rest r calm (inr (p, (is, h))) = inl (record { found = meant (accepts p); so = record { bytes = is.text; read = is.read; meaning = is.verdict }; answered = h })
 
 pub programs_agree : (Agree : ReplySeen → ReplySeen → Type 0) → Agreement Agree → (old new : InputsSeen) (ports : Bool) (file : List ℕ) (rest : Program → ReplySeen → Type 0) (r s : ReplySeen)
-    → (Rose old.files.faults new.files.faults → ⊥) → IsTold (old.files.told file) → ((p : Program) (x y : ReplySeen) → rest p x → rest p y → Agree x y)
+    → (Rose old.files.faults new.files.faults → ⊥) → IsToldFile (old.files.told file) → ((p : Program) (x y : ReplySeen) → rest p x → rest p y → Agree x y)
     → ProgramStage old new ports file rest r → ProgramStage old new ports file rest s → Agree r s
 programs_agree Agree agreement old new ports file rest r s calm told agree h k =
     agrees Verdict old.files file limit.Source (IsVerdict ports) one told Agree agreement (ByVerdict rest) by r s
@@ -215,7 +215,7 @@ data_stage old new data_ table rest no_memory calm (inl (inr h, idle)) = inr ref
 data_stage old new data_ table rest r calm (inr (m, (is, h))) = inl (record { found = meant (Ok m); so = record { bytes = is.bytes; read = is.read; meaning = (is.holds, is.only) }; answered = h })
 
 pub data_agree : (Agree : ReplySeen → ReplySeen → Type 0) → Agreement Agree → (old new : InputsSeen) (data_ : List ℕ) (table : List MemEntry) (rest : List (List ℕ) → ReplySeen → Type 0) (r s : ReplySeen)
-    → (Rose old.files.faults new.files.faults → ⊥) → IsTold (old.files.told data_) → ((m : List (List ℕ)) (x y : ReplySeen) → rest m x → rest m y → Agree x y)
+    → (Rose old.files.faults new.files.faults → ⊥) → IsToldFile (old.files.told data_) → ((m : List (List ℕ)) (x y : ReplySeen) → rest m x → rest m y → Agree x y)
     → DataStage old new data_ table rest r → DataStage old new data_ table rest s → Agree r s
 data_agree Agree agreement old new data_ table rest r s calm told agree h k =
     agrees (Result (List (List ℕ)) DataFault) old.files data_ limit.Data (MeansAlone table) (one_meaning table) told Agree agreement (ByMeaning table rest) by r s

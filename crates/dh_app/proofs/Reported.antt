@@ -13,15 +13,15 @@ use Rattle.dh_compile.specs.Compiled.{IsNetOfProgram}
 use Rattle.dh_app.specs.Engines.{EngineSeen, Asks, AnswersTo, AreRuns}
 use Rattle.dh_app.specs.InterpretJob.{stands_after, ending_at, IsStandingReport}
 use Rattle.dh_app.specs.Parts.{IsFirstReport}
-use Rattle.dh_app.specs.Replies.{ReplySeen, replied, unread, no_memory, Says}
+use Rattle.dh_app.specs.Replies.{ReplySeen, replied, unread, no_memory, ReplySays}
 use Rattle.dh_app.specs.Reporting.{status_of, IsEndingReport}
-use Rattle.dh_app.specs.SimulateJob.{ending_of, IsReport, RunsNet}
+use Rattle.dh_app.specs.SimulateJob.{finish_ending, IsReport, RunsNet}
 use Rattle.dh_app.specs.declared.engine.Finish.{Finish}
 use Rattle.dh_app.proofs.Lined.{says_as}
 
 -- a report of an ending that is how the run stands
 pub standing_reported : (p : Program) (memories : List (List ℕ)) (steps : ℕ) (table : List MemEntry) (after : List (List ℕ)) (ending : Ending) (r : ReplySeen) → table ≡ table_of p
-    → after ≡ (stands_after p memories steps).memories → ending ≡ ending_at (stands_after p memories steps) → Says (IsEndingReport table after ending) r → Says (IsStandingReport p memories steps) r
+    → after ≡ (stands_after p memories steps).memories → ending ≡ ending_at (stands_after p memories steps) → ReplySays (IsEndingReport table after ending) r → ReplySays (IsStandingReport p memories steps) r
 standing_reported p memories steps table after ending r t m e h =
     says_as (IsEndingReport table after ending) (IsStandingReport p memories steps) r
     (λ s text l. record {
@@ -50,12 +50,12 @@ one_report p net memories clocks exact answers s text is fits answered runs h =
       answered = h.answered;
       not_stuck = (subst P h.answered answered).0.not_stuck;
       status_is = h.report.status_is;
-      text_is = h.report.text_is ∙ ap (λ t. report_text t h.finish.memories (ending_of h.finish)) plays.table;
+      text_is = h.report.text_is ∙ ap (λ t. report_text t h.finish.memories (finish_ending h.finish)) plays.table;
       right = λ e. reports_by (plays.plays memories (subst F plays.table fits)) (subst Q h.answered (runs e)).0;
     }
 
 pub run_reported : (p : Program) (net : Net) (memories : List (List ℕ)) (clocks : ℕ) (old new : EngineSeen) (r : ReplySeen) → IsNetOfProgram p net → Fits net.table memories → Asks old new
-    → AnswersTo net (memories ∷ []) new.answers → (old.exact ≡ true → AreRuns net clocks (memories ∷ []) new.answers) → Says (IsFirstReport net.table new.answers) r → RunsNet old new p memories clocks r
+    → AnswersTo net (memories ∷ []) new.answers → (old.exact ≡ true → AreRuns net clocks (memories ∷ []) new.answers) → ReplySays (IsFirstReport net.table new.answers) r → RunsNet old new p memories clocks r
 run_reported p net memories clocks old new (replied s text) plays fits asks answered runs h = (asks, one_report p net memories clocks old.exact new.answers s text plays fits answered runs h)
 run_reported p net memories clocks old new unread plays fits asks answered runs h = h
 run_reported p net memories clocks old new no_memory plays fits asks answered runs h = inr asks

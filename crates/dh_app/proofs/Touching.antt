@@ -12,16 +12,16 @@ use Rattle.dh_tree.specs.Memories.{table_of}
 use Rattle.dh_tree.specs.PlainTrees.{Program}
 use Rattle.dh_tree.specs.declared.tables.MemEntry.{MemEntry}
 use Rattle.dh_check.specs.Verdicts.{Verdict, accepts, refuses, exceeds}
-use Rattle.dh_app.specs.Asking.{checked, interpreted, asked_by, file_at, data_at, word_at}
+use Rattle.dh_app.specs.Asking.{checked, interpreted, asked_by, file_at, data_at, argument_word}
 use Rattle.dh_app.specs.CheckJob.{IsOk, ChecksFile}
 use Rattle.dh_app.specs.Engines.{EngineSeen, Asks}
-use Rattle.dh_app.specs.Inputs.{InputsSeen, HasRead}
+use Rattle.dh_app.specs.Inputs.{InputsSeen, HasReadFiles}
 use Rattle.dh_app.specs.InterpretJob.{stands_after, IsStandingReport, InterpretsFiles}
 use Rattle.dh_app.specs.Jobs.{IsUsage, JobComes, ComesFor}
 use Rattle.dh_app.specs.NetStage.{NoNetOf}
 use Rattle.dh_app.specs.LowerJob.{IsNetText, LowersFile}
 use Rattle.dh_app.specs.Promises.{ReadsSecond, ReadsFor, AsksFor}
-use Rattle.dh_app.specs.Replies.{ReplySeen, replied, unread, no_memory, Says}
+use Rattle.dh_app.specs.Replies.{ReplySeen, replied, unread, no_memory, ReplySays}
 use Rattle.dh_app.specs.Reporting.{status_of}
 use Rattle.dh_app.specs.SimulateJob.{RunsNet, SimulatesFiles}
 use Rattle.dh_app.specs.Sources.{NoFile, NoProgram, IsProgram, NoData, verdict_status}
@@ -64,7 +64,7 @@ record Left (old new : FilesSeen) (r : ReplySeen) (count : ℕ) : Type 0 where
 
 -- ---- the stages
 
-said_left : (P : Status → List ℕ → Type 0) (old new : FilesSeen) (r : ReplySeen) (count : ℕ) → ((s : Status) (text : List ℕ) → P s text → IsShown s) → HasRead old new count → Says P r → Left old new r count
+said_left : (P : Status → List ℕ → Type 0) (old new : FilesSeen) (r : ReplySeen) (count : ℕ) → ((s : Status) (text : List ℕ) → P s text → IsShown s) → HasReadFiles old new count → ReplySays P r → Left old new r count
 said_left P old new (replied s text) count f k h = record { reads = k.reads; calm = k.faults; shows = f s text h }
 said_left P old new unread count f k h = absurd h
 said_left P old new no_memory count f k h = record { reads = k.reads; calm = k.faults; shows = tt }
@@ -98,7 +98,7 @@ outcome_shown outcome.Ended = tt
 outcome_shown (outcome.Faulted kind place) = tt
 outcome_shown (outcome.Stuck memory bank place) = tt
 
-run_left : (old new : FilesSeen) (e f : EngineSeen) (p : Program) (memories : List (List ℕ)) (clocks : ℕ) (r : ReplySeen) → HasRead old new 2 → RunsNet e f p memories clocks r → Left old new r 2
+run_left : (old new : FilesSeen) (e f : EngineSeen) (p : Program) (memories : List (List ℕ)) (clocks : ℕ) (r : ReplySeen) → HasReadFiles old new 2 → RunsNet e f p memories clocks r → Left old new r 2
 run_left old new e f p memories clocks (replied s text) k h =
     record { reads = k.reads; calm = k.faults; shows = shown_as s (status_of h.1.finish.outcome) h.1.status_is (outcome_shown h.1.finish.outcome) }
 run_left old new e f p memories clocks unread k h = absurd h
@@ -122,46 +122,46 @@ module _ (words : List (List ℕ)) (old new : InputsSeen) (job : Job) (r : Reply
   one_left : Left old.files new.files r 1 → AsksFor words old new (Some job) → JobLeft words old new (Some job) r
   one_left l a = record { calm = l.calm; shows = l.shows; reads = inl l.reads; asks = a }
 
-  two_left : (place : ℕ) → data_at job ≡ Some place → (p : Program) → IsProgram old.files (asked_by job) (word_at words (file_at job)) p → Left old.files new.files r 2 → AsksFor words old new (Some job)
+  two_left : (place : ℕ) → data_at job ≡ Some place → (p : Program) → IsProgram old.files (asked_by job) (argument_word words (file_at job)) p → Left old.files new.files r 2 → AsksFor words old new (Some job)
       → JobLeft words old new (Some job) r
   two_left place e p h l a =
       let P : Option ℕ → Type 0 = λ x. ReadsSecond words old.files new.files job x in
       record { calm = l.calm; shows = l.shows; reads = inr (subst P (sym e) (l.reads, (p, h))); asks = a }
 
-check_left : (words : List (List ℕ)) (old new : InputsSeen) (file : ℕ) (r : ReplySeen) → ChecksFile old new (word_at words file) r → JobLeft words old new (Some (Check file)) r
-check_left words old new file r (inl h) = one_left words old new (Check file) r (program_left old.files new.files checked (word_at words file) r h.0) h.1
+check_left : (words : List (List ℕ)) (old new : InputsSeen) (file : ℕ) (r : ReplySeen) → ChecksFile old new (argument_word words file) r → JobLeft words old new (Some (Check file)) r
+check_left words old new file r (inl h) = one_left words old new (Check file) r (program_left old.files new.files checked (argument_word words file) r h.0) h.1
 check_left words old new file r (inr (p, (is, (only, says)))) =
     one_left words old new (Check file) r (said_left IsOk old.files new.files r 1 (λ s text l. shown_as s status.Done l.0 tt) only.read says) only.idle
 
-none_left : (old new : FilesSeen) (p : Program) (r : ReplySeen) → HasRead old new 1 → NoNetOf p r → Left old new r 1
+none_left : (old new : FilesSeen) (p : Program) (r : ReplySeen) → HasReadFiles old new 1 → NoNetOf p r → Left old new r 1
 none_left old new p (replied s text) k h = record { reads = k.reads; calm = k.faults; shows = shown_as s status.TooLarge h.status_is tt }
 none_left old new p unread k h = absurd h
 none_left old new p no_memory k h = record { reads = k.reads; calm = k.faults; shows = tt }
 
-lower_left : (words : List (List ℕ)) (old new : InputsSeen) (file : ℕ) (r : ReplySeen) → LowersFile old new (word_at words file) r → JobLeft words old new (Some (Lower file)) r
-lower_left words old new file r (inl h) = one_left words old new (Lower file) r (program_left old.files new.files checked (word_at words file) r h.0) h.1
+lower_left : (words : List (List ℕ)) (old new : InputsSeen) (file : ℕ) (r : ReplySeen) → LowersFile old new (argument_word words file) r → JobLeft words old new (Some (Lower file)) r
+lower_left words old new file r (inl h) = one_left words old new (Lower file) r (program_left old.files new.files checked (argument_word words file) r h.0) h.1
 lower_left words old new file r (inr (p, (is, inl h))) = one_left words old new (Lower file) r (none_left old.files new.files p r h.0.read h.1) h.0.idle
 lower_left words old new file r (inr (p, (is, inr (net, (plays, (only, says)))))) =
     one_left words old new (Lower file) r (said_left (IsNetText net) old.files new.files r 1 (λ s text l. shown_as s status.Done l.done tt) only.read says) only.idle
 
-interpret_left : (words : List (List ℕ)) (old new : InputsSeen) (file data_ steps : ℕ) (unchecked : Bool) (r : ReplySeen) → InterpretsFiles old new (word_at words file) (word_at words data_) steps unchecked r
+interpret_left : (words : List (List ℕ)) (old new : InputsSeen) (file data_ steps : ℕ) (unchecked : Bool) (r : ReplySeen) → InterpretsFiles old new (argument_word words file) (argument_word words data_) steps unchecked r
     → JobLeft words old new (Some (Interpret file data_ steps unchecked)) r
 interpret_left words old new file data_ steps unchecked r (inl h) =
-    one_left words old new (Interpret file data_ steps unchecked) r (program_left old.files new.files (interpreted unchecked) (word_at words file) r h.0) h.1
+    one_left words old new (Interpret file data_ steps unchecked) r (program_left old.files new.files (interpreted unchecked) (argument_word words file) r h.0) h.1
 interpret_left words old new file data_ steps unchecked r (inr (p, (is, inl h))) =
-    two_left words old new (Interpret file data_ steps unchecked) r data_ refl p is (data_left old.files new.files (word_at words data_) (table_of p) 2 r h.0) h.1
+    two_left words old new (Interpret file data_ steps unchecked) r data_ refl p is (data_left old.files new.files (argument_word words data_) (table_of p) 2 r h.0) h.1
 interpret_left words old new file data_ steps unchecked r (inr (p, (is, inr (m, (held, (only, says)))))) =
     two_left words old new (Interpret file data_ steps unchecked) r data_ refl p is
     (said_left (IsStandingReport p m steps) old.files new.files r 2 (λ s text l. shown_as s (status_of (stands_after p m steps).outcome) l.status_is (outcome_shown (stands_after p m steps).outcome)) only.read says) only.idle
 
-simulate_left : (words : List (List ℕ)) (old new : InputsSeen) (file data_ clocks : ℕ) (r : ReplySeen) → SimulatesFiles old new (word_at words file) (word_at words data_) clocks r
+simulate_left : (words : List (List ℕ)) (old new : InputsSeen) (file data_ clocks : ℕ) (r : ReplySeen) → SimulatesFiles old new (argument_word words file) (argument_word words data_) clocks r
     → JobLeft words old new (Some (Simulate file data_ clocks)) r
 simulate_left words old new file data_ clocks r (inl h) =
-    one_left words old new (Simulate file data_ clocks) r (program_left old.files new.files checked (word_at words file) r h.0) (inl h.1)
+    one_left words old new (Simulate file data_ clocks) r (program_left old.files new.files checked (argument_word words file) r h.0) (inl h.1)
 simulate_left words old new file data_ clocks r (inr (p, (is, inl h))) =
     one_left words old new (Simulate file data_ clocks) r (none_left old.files new.files p r h.0.read h.1) (inl h.0.idle)
 simulate_left words old new file data_ clocks r (inr (p, (is, inr (net, (plays, inl h))))) =
-    two_left words old new (Simulate file data_ clocks) r data_ refl p is (data_left old.files new.files (word_at words data_) (table_of p) 2 r h.0) (inl h.1)
+    two_left words old new (Simulate file data_ clocks) r data_ refl p is (data_left old.files new.files (argument_word words data_) (table_of p) 2 r h.0) (inl h.1)
 simulate_left words old new file data_ clocks r (inr (p, (is, inr (net, (plays, inr (m, (held, (read, runs)))))))) =
     two_left words old new (Simulate file data_ clocks) r data_ refl p is (run_left old.files new.files old.engine new.engine p m clocks r read runs)
     (ports (run_asks old.engine new.engine p m clocks r runs))
@@ -181,7 +181,7 @@ usage_calm old new (replied s text) e = ap (λ x. x.files.faults) e
 usage_calm old new unread e = tt
 usage_calm old new no_memory e = ap (λ x. x.files.faults) e
 
-said_shows : (P : Status → List ℕ → Type 0) (r : ReplySeen) → ((s : Status) (text : List ℕ) → P s text → IsShown s) → Says P r → Shows r
+said_shows : (P : Status → List ℕ → Type 0) (r : ReplySeen) → ((s : Status) (text : List ℕ) → P s text → IsShown s) → ReplySays P r → Shows r
 said_shows P (replied s text) f h = f s text h
 said_shows P unread f h = tt
 said_shows P no_memory f h = tt

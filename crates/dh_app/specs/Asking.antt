@@ -34,5 +34,5 @@ data_at (Interpret file data_ steps unchecked) = Some data_
 data_at (Simulate file data_ clocks) = Some data_
 
 -- the word at a position
-abbrev pub word_at : (words : List (List ℕ)) → ℕ → List ℕ
-word_at words k = slice_index_or words k []
+abbrev pub argument_word : (words : List (List ℕ)) → ℕ → List ℕ
+argument_word words k = slice_index_or words k []

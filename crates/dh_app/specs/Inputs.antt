@@ -19,7 +19,7 @@ abbrev pub WithAnyEngine : (old new : FilesSeen) → (relation : InputsSeen → 
 WithAnyEngine old new relation = (engine : EngineSeen) → relation (inputs_of old engine) (inputs_of new engine)
 
 -- so many files were read, without a fault
-pub record HasRead (old new : FilesSeen) (count : ℕ) : Type 0 where
+pub record HasReadFiles (old new : FilesSeen) (count : ℕ) : Type 0 where
   pub reads : new.reads ≡ risen old.reads count
   pub faults : new.faults ≡ old.faults
 
@@ -29,10 +29,10 @@ IsIdle old new = new.engine ≡ old.engine
 
 -- so many files were read, without a fault, and the engine is as before
 pub record OnlyReads (old new : InputsSeen) (count : ℕ) : Type 0 where
-  pub read : HasRead old.files new.files count
+  pub read : HasReadFiles old.files new.files count
   pub idle : IsIdle old new
 
 -- of the files that a job reads the first was read
 pub record HasBegun (old new : FilesSeen) : Type 0 where
   pub keeps : KeepsFiles old new
-  pub read : HasRead old new 1
+  pub read : HasReadFiles old new 1

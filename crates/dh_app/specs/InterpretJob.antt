@@ -11,7 +11,7 @@ use Rattle.dh_data.specs.declared.reports.Ending.{Ending}
 use Rattle.dh_app.specs.Asking.{interpreted}
 use Rattle.dh_app.specs.Engines.{EngineSeen}
 use Rattle.dh_app.specs.Inputs.{HasBegun, InputsSeen, OnlyReads, inputs_of}
-use Rattle.dh_app.specs.Replies.{ReplySeen, Says}
+use Rattle.dh_app.specs.Replies.{ReplySeen, ReplySays}
 use Rattle.dh_app.specs.Reporting.{status_of}
 use Rattle.dh_app.specs.Sources.{ProgramStage, DataStage}
 
@@ -34,7 +34,7 @@ pub record IsStandingReport (p : Program) (memories : List (List ℕ)) (steps : 
 -- the data is read, and how the run from it stands is the reply
 abbrev pub InterpretsData : (old new : InputsSeen) → (data_ : List ℕ) → Program → (steps : ℕ) → ReplySeen → Type 0
 InterpretsData old new data_ p steps r =
-    DataStage old new data_ (table_of p) (λ memories answer. OnlyReads old new 2 × Says (IsStandingReport p memories steps) answer) r
+    DataStage old new data_ (table_of p) (λ memories answer. OnlyReads old new 2 × ReplySays (IsStandingReport p memories steps) answer) r
 
 -- so it is from wherever the first of a job's files was read, whatever engine stands beside them
 abbrev pub InterpretsOnceRead : (files files_after : FilesSeen) → (data_ : List ℕ) → Program → (steps : ℕ) → ReplySeen → Type 0

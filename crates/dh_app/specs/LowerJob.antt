@@ -9,7 +9,7 @@ use Rattle.dh_verilog.specs.Text.{text_of}
 use Rattle.dh_app.specs.Asking.{checked}
 use Rattle.dh_app.specs.Inputs.{InputsSeen, OnlyReads}
 use Rattle.dh_app.specs.NetStage.{NetStage}
-use Rattle.dh_app.specs.Replies.{ReplySeen, Says}
+use Rattle.dh_app.specs.Replies.{ReplySeen, ReplySays}
 use Rattle.dh_app.specs.Sources.{ProgramStage}
 
 -- the text is that of this net, and of no other net
@@ -20,7 +20,7 @@ pub record IsNetText (net : Net) (s : Status) (text : List ℕ) : Type 0 where
 
 -- an accepted program is compiled: the text of a net that plays it is the reply, or that it is too large
 abbrev pub LowersProgram : (old new : InputsSeen) → Program → ReplySeen → Type 0
-LowersProgram old new p r = NetStage old new p (λ net answer. OnlyReads old new 1 × Says (IsNetText net) answer) r
+LowersProgram old new p r = NetStage old new p (λ net answer. OnlyReads old new 1 × ReplySays (IsNetText net) answer) r
 
 -- so it is of all inputs of which one file was read and nothing else
 abbrev pub LowersOnceRead : Program → ReplySeen → Type 0

@@ -23,12 +23,12 @@ use Rattle.dh_data.specs.declared.data_files.DataFault.{DataFault}
 use Rattle.dh_data.specs.declared.data_files.DataFault.TheVariants as fault
 use Rattle.dh_app.specs.Asking.{interpreted}
 use Rattle.dh_app.specs.Engines.{EngineSeen}
-use Rattle.dh_app.specs.Inputs.{HasRead, HasBegun}
+use Rattle.dh_app.specs.Inputs.{HasReadFiles, HasBegun}
 use Rattle.dh_app.specs.Lines.{refused_line, too_large_line, bad_data_line}
-use Rattle.dh_app.specs.Replies.{ReplySeen, no_memory, reply_seen, Says}
+use Rattle.dh_app.specs.Replies.{ReplySeen, no_memory, reply_seen, ReplySays}
 use Rattle.dh_app.specs.Sources.{MayRead, NoFile, IsProgram, NoProgram, verdict_line, verdict_status, IsRefusal, IsData, NoData}
 use Rattle.dh_app.specs.Reporting.{IsEndingReport}
-use Rattle.dh_app.specs.SimulateJob.{ending_of, RunsNet}
+use Rattle.dh_app.specs.SimulateJob.{finish_ending, RunsNet}
 use Rattle.dh_app.specs.declared.engine.Finish.{Finish}
 use Rattle.dh_app.specs.declared.replies.Answer.{Answer}
 use Rattle.dh_app.specs.declared.replies.Reply.{Reply}
@@ -41,7 +41,7 @@ Line s text t other = (t ≡ s) × (other ≡ text)
 
 -- a reply with a line, where memory for it was had
 abbrev pub RepliesWith : Status → Result (Vec ℕ Global) NoMemory → ReplySeen → Type 0
-RepliesWith s (Ok line) r = Says (Line s line.items) r
+RepliesWith s (Ok line) r = ReplySays (Line s line.items) r
 RepliesWith s (Err e) r = r ≡ no_memory
 
 -- a line was written of a fault; want of memory has none
@@ -56,15 +56,15 @@ WritesFault table fault.NoMemory line = IfOk line (λ v. ⊥)
 
 -- the line of a fault of the check
 abbrev pub SaysFault : CheckFault → ReplySeen → Type 0
-SaysFault (check_fault.Refused rule place) r = Says (Line status.Refused (refused_line rule place)) r
-SaysFault (check_fault.TooLarge limit count) r = Says (Line status.TooLarge (too_large_line limit count)) r
+SaysFault (check_fault.Refused rule place) r = ReplySays (Line status.Refused (refused_line rule place)) r
+SaysFault (check_fault.TooLarge limit count) r = ReplySays (Line status.TooLarge (too_large_line limit count)) r
 SaysFault check_fault.NoMemory r = r ≡ no_memory
 
 -- ---- files
 
 -- the bytes of a file under a limit
 abbrev pub FileRead : (old new : FilesSeen) → (name : List ℕ) → Limit → Result (Vec ℕ Global) Reply → Type 0
-FileRead old new name l (Ok bytes) = MayRead old name l bytes.items × HasRead old new 1
+FileRead old new name l (Ok bytes) = MayRead old name l bytes.items × HasReadFiles old new 1
 FileRead old new name l (Err r) = NoFile old new name l 1 (reply_seen r)
 
 -- a text comes to a verdict that refuses it, whose line is the reply
@@ -77,15 +77,15 @@ pub record RefusesText (ports : Bool) (text : List ℕ) (s : Status) (line : Lis
 
 abbrev pub ProgramOf : Bool → (text : List ℕ) → Result Accepted Reply → Type 0
 ProgramOf ports text (Ok p) = IsVerdict ports text (accepts (program_seen p))
-ProgramOf ports text (Err r) = Says (RefusesText ports text) (reply_seen r)
+ProgramOf ports text (Err r) = ReplySays (RefusesText ports text) (reply_seen r)
 
 -- the same of a text whose ports are not judged
 abbrev pub TypedOf : Bool → (text : List ℕ) → Result Typed Reply → Type 0
 TypedOf ports text (Ok t) = IsVerdict ports text (accepts (program_seen t)) × IsReady (program_seen t)
-TypedOf ports text (Err r) = Says (RefusesText ports text) (reply_seen r)
+TypedOf ports text (Err r) = ReplySays (RefusesText ports text) (reply_seen r)
 
 abbrev pub ProgramRead : (old new : FilesSeen) → Bool → (file : List ℕ) → Result Accepted Reply → Type 0
-ProgramRead old new ports file (Ok p) = IsProgram old ports file (program_seen p) × HasRead old new 1
+ProgramRead old new ports file (Ok p) = IsProgram old ports file (program_seen p) × HasReadFiles old new 1
 ProgramRead old new ports file (Err r) = NoProgram old new ports file (reply_seen r)
 
 -- the same, where its ports are judged
@@ -93,7 +93,7 @@ abbrev pub AcceptedRead : (old new : FilesSeen) → (file : List ℕ) → Result
 AcceptedRead old new file r = ProgramRead old new true file r
 
 abbrev pub TypedRead : (old new : FilesSeen) → Bool → (file : List ℕ) → Result Typed Reply → Type 0
-TypedRead old new ports file (Ok t) = IsProgram old ports file (program_seen t) × (HasRead old new 1 × IsReady (program_seen t))
+TypedRead old new ports file (Ok t) = IsProgram old ports file (program_seen t) × (HasReadFiles old new 1 × IsReady (program_seen t))
 TypedRead old new ports file (Err r) = NoProgram old new ports file (reply_seen r)
 
 -- what `--unchecked` asks of the file
@@ -116,11 +116,11 @@ pub record HoldsAlone (bytes : List ℕ) (table : List MemEntry) (memories : Lis
 
 abbrev pub DataOf : (bytes : List ℕ) → List MemEntry → Result (List (List ℕ)) Reply → Type 0
 DataOf bytes table (Ok memories) = HoldsAlone bytes table memories
-DataOf bytes table (Err r) = Says (BadBytes bytes table) (reply_seen r)
+DataOf bytes table (Err r) = ReplySays (BadBytes bytes table) (reply_seen r)
 
 -- the memories of a file that is read as the second
 abbrev pub DataRead : (old new : FilesSeen) → (data_ : List ℕ) → List MemEntry → Result (List (List ℕ)) Reply → Type 0
-DataRead old new data_ table (Ok memories) = IsData old data_ table memories × HasRead old new 2
+DataRead old new data_ table (Ok memories) = IsData old data_ table memories × HasReadFiles old new 2
 DataRead old new data_ table (Err r) = NoData old new data_ table 2 (reply_seen r)
 
 -- so it is from wherever the first of a job's files was read
@@ -141,7 +141,7 @@ IsSingleAnswer table answers = (finish : Finish) × ((answers ≡ finish ∷ [])
 pub record IsFirstReport (table : List MemEntry) (answers : List Finish) (s : Status) (text : List ℕ) : Type 0 where
   pub finish : Finish
   pub answered : answers ≡ finish ∷ []
-  pub report : IsEndingReport table finish.memories (ending_of finish) s text
+  pub report : IsEndingReport table finish.memories (finish_ending finish) s text
 
 -- ---- the output
 

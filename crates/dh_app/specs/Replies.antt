@@ -17,7 +17,7 @@ reply_seen reply.ReadFault = unread
 reply_seen reply.NoMemory = no_memory
 
 -- the reply is of this status and text, or memory was refused
-abbrev pub Says : (Status → List ℕ → Type 0) → ReplySeen → Type 0
-Says P (replied s text) = P s text
-Says P unread = ⊥
-Says P no_memory = Unit {0}
+abbrev pub ReplySays : (Status → List ℕ → Type 0) → ReplySeen → Type 0
+ReplySays P (replied s text) = P s text
+ReplySays P unread = ⊥
+ReplySays P no_memory = Unit {0}

@@ -11,15 +11,15 @@ use Rattle.dh_data.specs.Reports.{report_text}
 use Rattle.dh_data.specs.declared.reports.Ending.{Ending}
 use Rattle.dh_app.specs.Asking.{checked}
 use Rattle.dh_app.specs.Engines.{EngineSeen, Asks}
-use Rattle.dh_app.specs.Inputs.{HasBegun, HasRead, InputsSeen, inputs_of}
+use Rattle.dh_app.specs.Inputs.{HasBegun, HasReadFiles, InputsSeen, inputs_of}
 use Rattle.dh_app.specs.NetStage.{NetStage}
 use Rattle.dh_app.specs.Replies.{ReplySeen, replied, unread, no_memory}
 use Rattle.dh_app.specs.Reporting.{status_of}
 use Rattle.dh_app.specs.Sources.{ProgramStage, DataStage}
 use Rattle.dh_app.specs.declared.engine.Finish.{Finish}
 
-abbrev pub ending_of : Finish → Ending
-ending_of f = record { outcome = f.outcome; steps = f.steps; clocks = Some f.clocks }
+abbrev pub finish_ending : Finish → Ending
+finish_ending f = record { outcome = f.outcome; steps = f.steps; clocks = Some f.clocks }
 
 -- this status and this text report the engine's one answer. Where the engine is exact, that is what
 -- the checked run of the program comes to within so many clocks.
@@ -28,7 +28,7 @@ pub record IsReport (p : Program) (memories : List (List ℕ)) (clocks : ℕ) (e
   pub answered : answers ≡ finish ∷ []
   pub not_stuck : IsStuck finish.outcome → ⊥
   pub status_is : s ≡ status_of finish.outcome
-  pub text_is : text ≡ report_text (table_of p) finish.memories (ending_of finish)
+  pub text_is : text ≡ report_text (table_of p) finish.memories (finish_ending finish)
   pub right : exact ≡ true → Reports (program_run p memories) clocks finish.outcome finish.steps finish.clocks finish.memories
 
 -- the engine is asked once, and its answer is the reply; memory may be refused before it is asked or after
@@ -40,7 +40,7 @@ RunsNet old new p memories clocks no_memory = (new ≡ old) ⊎ Asks old new
 -- the data is read, and the engine runs the net from it
 abbrev pub SimulatesData : (old new : InputsSeen) → (data_ : List ℕ) → (clocks : ℕ) → Program → ReplySeen → Type 0
 SimulatesData old new data_ clocks p r =
-    DataStage old new data_ (table_of p) (λ memories answer. HasRead old.files new.files 2 × RunsNet old.engine new.engine p memories clocks answer) r
+    DataStage old new data_ (table_of p) (λ memories answer. HasReadFiles old.files new.files 2 × RunsNet old.engine new.engine p memories clocks answer) r
 
 -- an accepted program is compiled, then its data is read, and the engine runs the net
 abbrev pub SimulatesProgram : (old new : InputsSeen) → (data_ : List ℕ) → (clocks : ℕ) → Program → ReplySeen → Type 0

@@ -13,7 +13,7 @@ use Rattle.dh_tree.specs.PlainTrees.{Program}
 use Rattle.dh_check.specs.Verdicts.{Verdict, accepts, refuses, exceeds, IsVerdict}
 use Rattle.dh_data.specs.DataFiles.{HoldsContents, Means}
 use Rattle.dh_data.specs.declared.data_files.DataFault.{DataFault}
-use Rattle.dh_app.specs.Inputs.{InputsSeen, HasRead, IsIdle}
+use Rattle.dh_app.specs.Inputs.{InputsSeen, HasReadFiles, IsIdle}
 use Rattle.dh_app.specs.Lines.{ok_line, refused_line, too_large_line, bad_data_line}
 use Rattle.dh_app.specs.Replies.{ReplySeen, replied, unread, no_memory}
 
@@ -36,7 +36,7 @@ FailsToRead old new name = Rose old.faults new.faults ⊎ IsAbsent (old.told nam
 -- the file, the last of so many that were read, is too long, and the reply says so
 pub record SaysLong (old new : FilesSeen) (name : List ℕ) (l : Limit) (count : ℕ) (s : Status) (text : List ℕ) : Type 0 where
   pub long : IsTooLong old new name l
-  pub read : HasRead old new count
+  pub read : HasReadFiles old new count
   pub status_is : s ≡ status.TooLarge
   pub text_is : text ≡ too_large_line l (greatest_of l + 1)
 
@@ -49,7 +49,7 @@ pub record FailsAt (old new : FilesSeen) (name : List ℕ) (count : ℕ) : Type 
 abbrev pub NoFile : (old new : FilesSeen) → (name : List ℕ) → Limit → (count : ℕ) → ReplySeen → Type 0
 NoFile old new name l count (replied s text) = SaysLong old new name l count s text
 NoFile old new name l count unread = FailsAt old new name count
-NoFile old new name l count no_memory = HasRead old new count
+NoFile old new name l count no_memory = HasReadFiles old new count
 
 -- ---- the program
 
@@ -71,21 +71,21 @@ IsRefusal (refuses rule place) = Unit {0}
 IsRefusal (exceeds excess) = Unit {0}
 
 -- by what is asked of it, the text of the file comes to this verdict, and to no other
-pub record ComesTo (files : FilesSeen) (ports : Bool) (file : List ℕ) (v : Verdict) : Type 0 where
+pub record FileComesTo (files : FilesSeen) (ports : Bool) (file : List ℕ) (v : Verdict) : Type 0 where
   pub text : List ℕ
   pub read : MayRead files file limit.Source text
   pub verdict : IsVerdict ports text v
 
 -- the file is the text of this program, accepted by what is asked of it
 abbrev pub IsProgram : FilesSeen → Bool → (file : List ℕ) → Program → Type 0
-IsProgram files ports file p = ComesTo files ports file (accepts p)
+IsProgram files ports file p = FileComesTo files ports file (accepts p)
 
 -- the program breaks a rule or exceeds a limit, and the reply says which
 pub record SaysRefused (old new : FilesSeen) (ports : Bool) (file : List ℕ) (s : Status) (text : List ℕ) : Type 0 where
   pub verdict : Verdict
   pub refuses_it : IsRefusal verdict
-  pub comes : ComesTo old ports file verdict
-  pub read : HasRead old new 1
+  pub comes : FileComesTo old ports file verdict
+  pub read : HasReadFiles old new 1
   pub status_is : s ≡ verdict_status verdict
   pub text_is : text ≡ verdict_line verdict
 
@@ -93,7 +93,7 @@ pub record SaysRefused (old new : FilesSeen) (ports : Bool) (file : List ℕ) (s
 abbrev pub NotAccepted : (old new : FilesSeen) → Bool → (file : List ℕ) → ReplySeen → Type 0
 NotAccepted old new ports file (replied s text) = SaysRefused old new ports file s text
 NotAccepted old new ports file unread = ⊥
-NotAccepted old new ports file no_memory = HasRead old new 1
+NotAccepted old new ports file no_memory = HasReadFiles old new 1
 
 -- the file gave no program
 abbrev pub NoProgram : (old new : FilesSeen) → Bool → (file : List ℕ) → ReplySeen → Type 0
@@ -127,7 +127,7 @@ pub record IsBadData (files : FilesSeen) (data_ : List ℕ) (table : List MemEnt
 pub record SaysBadData (old new : FilesSeen) (data_ : List ℕ) (table : List MemEntry) (count : ℕ) (s : Status) (text : List ℕ) : Type 0 where
   pub fault : DataFault
   pub bad_data : IsBadData old data_ table fault
-  pub read : HasRead old new count
+  pub read : HasReadFiles old new count
   pub status_is : s ≡ status.BadData
   pub text_is : text ≡ bad_data_line table fault
 
@@ -135,7 +135,7 @@ pub record SaysBadData (old new : FilesSeen) (data_ : List ℕ) (table : List Me
 abbrev pub NotTaken : (old new : FilesSeen) → (data_ : List ℕ) → List MemEntry → (count : ℕ) → ReplySeen → Type 0
 NotTaken old new data_ table count (replied s text) = SaysBadData old new data_ table count s text
 NotTaken old new data_ table count unread = ⊥
-NotTaken old new data_ table count no_memory = HasRead old new count
+NotTaken old new data_ table count no_memory = HasReadFiles old new count
 
 -- the file, the last of so many that were read, gave no memories
 abbrev pub NoData : (old new : FilesSeen) → (data_ : List ℕ) → List MemEntry → (count : ℕ) → ReplySeen → Type 0

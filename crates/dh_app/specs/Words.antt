@@ -26,14 +26,14 @@ abbrev pub usual_clocks : ℕ
 usual_clocks = 10000000
 
 -- the number of steps or clocks that a word writes, in decimal and without a leading zero
-unfoldable pub steps_of : List ℕ → Option ℕ
-steps_of word = if nat_le (digits_value 10 word) most_steps && bytes_eq word (decimal (digits_value 10 word)) then Some (digits_value 10 word) else None
+unfoldable pub steps_in_word : List ℕ → Option ℕ
+steps_in_word word = if nat_le (digits_value 10 word) most_steps && bytes_eq word (decimal (digits_value 10 word)) then Some (digits_value 10 word) else None
 
 -- a word begins neither with `+` nor with `0` before something else
-abbrev pub is_plain : List ℕ → Bool
-is_plain [] = true
-is_plain (b ∷ []) = not (b == 43)
-is_plain (b ∷ (c ∷ bs)) = not (b == 43) && not (b == 48)
+abbrev pub is_plain_word : List ℕ → Bool
+is_plain_word [] = true
+is_plain_word (b ∷ []) = not (b == 43)
+is_plain_word (b ∷ (c ∷ bs)) = not (b == 43) && not (b == 48)
 
 -- `check FILE` and `lower FILE`
 abbrev pub over_file : List ℕ → Option Job
@@ -48,10 +48,10 @@ interpret_for unchecked (Some steps) = Some (Interpret 1 2 steps unchecked)
 abbrev pub interpret_with : (options : List (List ℕ)) → Option Job
 interpret_with [] = interpret_for false (Some usual_steps)
 interpret_with (a ∷ []) = if bytes_eq a (codes "--unchecked") then interpret_for true (Some usual_steps) else None
-interpret_with (a ∷ (b ∷ [])) = if bytes_eq a (codes "--steps") then interpret_for false (steps_of b) else None
+interpret_with (a ∷ (b ∷ [])) = if bytes_eq a (codes "--steps") then interpret_for false (steps_in_word b) else None
 interpret_with (a ∷ (b ∷ (c ∷ []))) =
-    if bytes_eq a (codes "--unchecked") && bytes_eq b (codes "--steps") then interpret_for true (steps_of c)
-    else (if bytes_eq a (codes "--steps") && bytes_eq c (codes "--unchecked") then interpret_for true (steps_of b) else None)
+    if bytes_eq a (codes "--unchecked") && bytes_eq b (codes "--steps") then interpret_for true (steps_in_word c)
+    else (if bytes_eq a (codes "--steps") && bytes_eq c (codes "--unchecked") then interpret_for true (steps_in_word b) else None)
 interpret_with _ = None
 
 -- `simulate FILE DATA` for these clocks
@@ -62,7 +62,7 @@ simulate_for (Some clocks) = Some (Simulate 1 2 clocks)
 -- the options of `simulate`: `--clocks N`, at most once
 abbrev pub simulate_with : (options : List (List ℕ)) → Option Job
 simulate_with [] = simulate_for (Some usual_clocks)
-simulate_with (a ∷ (b ∷ [])) = if bytes_eq a (codes "--clocks") then simulate_for (steps_of b) else None
+simulate_with (a ∷ (b ∷ [])) = if bytes_eq a (codes "--clocks") then simulate_for (steps_in_word b) else None
 simulate_with _ = None
 
 abbrev pub over_data : (command : List ℕ) → (options : List (List ℕ)) → Option Job

@@ -3,7 +3,7 @@
 ghost use Rattle.dh_base.specs.Outside.{KeepsFiles};
 ghost use Rattle.dh_app.specs.CheckJob.{IsOk, ChecksFile};
 ghost use Rattle.dh_app.specs.Inputs.{WithAnyEngine};
-ghost use Rattle.dh_app.specs.Replies.{Says, reply_seen};
+ghost use Rattle.dh_app.specs.Replies.{ReplySays, reply_seen};
 
 use crate::lines::ok_line;
 use crate::replies::{Reply, leave, reply_with};
@@ -28,7 +28,7 @@ pub fn check_file<F: Files>(alloc: Global, file: &str, files: &mut F) -> Reply
 
 /// That the program breaks no rule.
 fn ok_reply(alloc: Global) -> Reply
-    ensures { Says IsOk (reply_seen result) }
+    ensures { ReplySays IsOk (reply_seen result) }
 {
     reply_with(Status::Done, ok_line(alloc))
 }

@@ -9,7 +9,7 @@ ghost use Rattle.dh_tree.specs.Ready.{IsReady};
 ghost use Rattle.dh_sem.specs.Runs.{StandsAt};
 ghost use Rattle.dh_app.specs.Inputs.{WithAnyEngine};
 ghost use Rattle.dh_app.specs.InterpretJob.{InterpretsFiles, InterpretsOnceRead, IsStandingReport};
-ghost use Rattle.dh_app.specs.Replies.{Says, reply_seen};
+ghost use Rattle.dh_app.specs.Replies.{ReplySays, reply_seen};
 
 use crate::replies::{Reply, leave};
 use crate::reporting::report_ending;
@@ -82,7 +82,7 @@ fn interpret_typed<F: Files>(
 fn report_standing(alloc: Global, typed: &Typed, memories: Memories, steps: u64) -> Reply
     requires ready { IsReady (program_seen typed.now) }
     requires fits { Fits (table_of (program_seen typed.now)) memories }
-    ensures { Says (IsStandingReport (program_seen typed.now) memories steps) (reply_seen result) }
+    ensures { ReplySays (IsStandingReport (program_seen typed.now) memories steps) (reply_seen result) }
 {
     ready_programs_have_tables();
     let Ok(interp) = run_for(alloc, typed, memories, steps) else {

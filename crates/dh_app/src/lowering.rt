@@ -5,7 +5,7 @@ ghost use Rattle.dh_tree.specs.Seen.{program_seen};
 ghost use Rattle.dh_net.specs.Valid.{IsValid, HasReadsZero};
 ghost use Rattle.dh_app.specs.Inputs.{WithAnyEngine};
 ghost use Rattle.dh_app.specs.LowerJob.{IsNetText, LowersFile, LowersOnceRead};
-ghost use Rattle.dh_app.specs.Replies.{Says, reply_seen};
+ghost use Rattle.dh_app.specs.Replies.{ReplySays, reply_seen};
 
 use crate::compiling::net_of;
 use crate::replies::{Answer, Reply, leave};
@@ -49,7 +49,7 @@ fn lower_program(alloc: Global, accepted: &Accepted) -> Reply
 fn net_text(alloc: Global, net: &Net) -> Reply
     requires valid { IsValid net.now }
     requires zero_reads { HasReadsZero net.now }
-    ensures { Says (IsNetText net.now) (reply_seen result) }
+    ensures { ReplySays (IsNetText net.now) (reply_seen result) }
 {
     match dh_verilog::write(alloc, net) {
         Ok(text) => Reply::Answer(Answer {

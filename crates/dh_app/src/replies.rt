@@ -3,7 +3,7 @@
 ghost use Rattle.dh_base.specs.declared.statuses.Status.TheVariants as status;
 ghost use Rattle.dh_app.specs.Lines as lines;
 ghost use Rattle.dh_app.specs.Parts.{Line, RepliesWith};
-ghost use Rattle.dh_app.specs.Replies.{Says, reply_seen};
+ghost use Rattle.dh_app.specs.Replies.{ReplySays, reply_seen};
 
 use crate::lines::too_large_line;
 use dh_base::{Excess, Limit, NoMemory, Status};
@@ -48,7 +48,7 @@ pub fn reply_with(status: Status, line: Result<Vec<u8>, NoMemory>) -> Reply
 
 /// That a file is longer than its limit: the count is the limit and one.
 pub fn too_large(alloc: Global, limit: Limit) -> Reply
-    ensures { Says (Line status.TooLarge (lines.too_long_line limit)) (reply_seen result) }
+    ensures { ReplySays (Line status.TooLarge (lines.too_long_line limit)) (reply_seen result) }
 {
     let count = limit.greatest() + 1;
     let line = too_large_line(alloc, Excess { limit, count });

@@ -3,7 +3,7 @@
 ghost use Rattle.std.specs.Prelude.{◌≡◌};
 ghost use Rattle.dh_tree.specs.Shapes.{IsProgramTable};
 ghost use Rattle.dh_tree.specs.Tables.{Fits};
-ghost use Rattle.dh_app.specs.Replies.{Says, reply_seen};
+ghost use Rattle.dh_app.specs.Replies.{ReplySays, reply_seen};
 ghost use Rattle.dh_app.specs.Reporting.{IsEndingReport, status_of as status_by};
 
 use crate::replies::{Answer, Reply};
@@ -16,7 +16,7 @@ use std::alloc::Global;
 pub fn report_ending(alloc: Global, table: &MemTable, memories: &Memories, ending: &Ending) -> Reply
     requires table { IsProgramTable table.now }
     requires fits { Fits table.now memories.now }
-    ensures { Says (IsEndingReport table.now memories.now ending.now) (reply_seen result) }
+    ensures { ReplySays (IsEndingReport table.now memories.now ending.now) (reply_seen result) }
 {
     match report(alloc, table, memories, ending) {
         Ok(text) => Reply::Answer(Answer {

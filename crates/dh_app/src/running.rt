@@ -2,12 +2,12 @@
 
 ghost use Rattle.std.specs.Prelude.{◌≡◌, Some};
 ghost use Rattle.dh_base.specs.Outside.{KeepsFiles, KeepsSink};
-ghost use Rattle.dh_app.specs.Ends.{Ends, OverCall};
+ghost use Rattle.dh_app.specs.Ends.{CallEnds, OverCall};
 ghost use Rattle.dh_app.specs.Inputs.{OverInputs};
 ghost use Rattle.dh_app.specs.Jobs.{IsUsage, JobComes, Comes};
 ghost use Rattle.dh_app.specs.Parts.{Written};
-ghost use Rattle.dh_app.specs.Promises.{CountsFaults, Touches, Succeeds, HasOneAnswer};
-ghost use Rattle.dh_app.specs.Replies.{Says, reply_seen};
+ghost use Rattle.dh_app.specs.Promises.{CountsFaults, TouchesInputs, Succeeds, HasOneAnswer};
+ghost use Rattle.dh_app.specs.Replies.{ReplySays, reply_seen};
 ghost use Rattle.dh_app.specs.Words.{job_of, words_seen};
 
 use crate::checking::check_file;
@@ -44,13 +44,13 @@ pub fn run<F: Files, S: Sink, E: Engine>(
     ensures out { KeepsSink (S.seen out.old) (S.seen out.new) }
     ensures ends { OverCall (F.seen files.old) (E.seen engine.old) (S.seen out.old)
         (F.seen files.new) (E.seen engine.new) (S.seen out.new)
-        (λ old new before after. Ends (words_seen words.now) old new before after result) }
+        (λ old new before after. CallEnds (words_seen words.now) old new before after result) }
     ensures faults { OverCall (F.seen files.old) (E.seen engine.old) (S.seen out.old)
         (F.seen files.new) (E.seen engine.new) (S.seen out.new)
         (λ old new before after. CountsFaults old.files new.files before after result) }
     ensures touches { OverInputs (F.seen files.old) (E.seen engine.old)
         (F.seen files.new) (E.seen engine.new)
-        (Touches (words_seen words.now)) }
+        (TouchesInputs (words_seen words.now)) }
     ensures succeeds { OverCall (F.seen files.old) (E.seen engine.old) (S.seen out.old)
         (F.seen files.new) (E.seen engine.new) (S.seen out.new)
         (λ old new before after. Succeeds (words_seen words.now) old new before after result) }
@@ -72,7 +72,7 @@ fn call<F: Files, S: Sink, E: Engine>(
     ensures out { KeepsSink (S.seen out.old) (S.seen out.new) }
     ensures ends { OverCall (F.seen files.old) (E.seen engine.old) (S.seen out.old)
         (F.seen files.new) (E.seen engine.new) (S.seen out.new)
-        (λ old new before after. Ends (words_seen words.now) old new before after result) }
+        (λ old new before after. CallEnds (words_seen words.now) old new before after result) }
 {
     match reply_to(alloc, words, files, engine) {
         Reply::Answer(answer) => write_answer(out, &answer),
@@ -113,7 +113,7 @@ fn reply_to<F: Files, E: Engine>(
 
 /// How to call the program.
 fn usage_reply(alloc: Global) -> Reply
-    ensures { Says IsUsage (reply_seen result) }
+    ensures { ReplySays IsUsage (reply_seen result) }
 {
     reply_with(Status::Usage, usage_line(alloc))
 }

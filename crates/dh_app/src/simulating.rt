@@ -8,7 +8,7 @@ ghost use Rattle.dh_tree.specs.Tables.{Fits};
 ghost use Rattle.dh_net.specs.Valid.{IsValid};
 ghost use Rattle.dh_app.specs.Inputs.{OverInputs};
 ghost use Rattle.dh_app.specs.Parts.{IsFirstReport, IsSingleAnswer, RunsAsPlayed};
-ghost use Rattle.dh_app.specs.Replies.{Says, reply_seen};
+ghost use Rattle.dh_app.specs.Replies.{ReplySays, reply_seen};
 ghost use Rattle.dh_app.specs.SimulateJob.{SimulatesFiles, SimulatesOnceRead};
 
 use crate::compiling::net_of;
@@ -106,7 +106,7 @@ fn only(alloc: Global, memories: Memories) -> Result<Vec<Memories>, NoMemory>
 fn report_first(alloc: Global, table: &MemTable, answers: &[Finish]) -> Reply
     requires answers { IsSingleAnswer table.now answers.now }
     requires table { IsProgramTable table.now }
-    ensures { Says (IsFirstReport table.now answers.now) (reply_seen result) }
+    ensures { ReplySays (IsFirstReport table.now answers.now) (reply_seen result) }
 {
     let finish = &answers[0];
     let ending = Ending {

@@ -1,7 +1,7 @@
 //! The words that the program is called with, and the job that they name.
 
 ghost use Rattle.std.specs.Prelude.{◌≡◌, ◌<◌, [], ◌∷◌, length};
-ghost use Rattle.dh_app.specs.Asking.{word_at};
+ghost use Rattle.dh_app.specs.Asking.{argument_word};
 ghost use Rattle.dh_app.specs.Words as words;
 ghost use Rattle.dh_app.specs.Words.{job_of, is_file_word, words_seen};
 
@@ -69,7 +69,7 @@ impl Job {
 /// The word at a position.
 pub fn word(words: &[String], position: u32) -> &str
     requires { position < length words.now }
-    ensures { result.now ≡ word_at (words_seen words.now) position }
+    ensures { result.now ≡ argument_word (words_seen words.now) position }
 {
     words[position as usize].as_str()
 }
@@ -202,7 +202,7 @@ fn interpret_for(unchecked: bool, steps: Option<u64>) -> Option<Job>
 /// The number of steps or clocks that a word writes: `0`, or decimal digits without a leading zero, up to
 /// 1,000,000,000,000.
 fn steps_of(word: &str) -> Option<u64>
-    ensures { result ≡ words.steps_of word.now }
+    ensures { result ≡ words.steps_in_word word.now }
 {
     if !is_plain(word) {
         return None;
@@ -218,7 +218,7 @@ fn steps_of(word: &str) -> Option<u64>
 
 /// Whether a word begins neither with `+` nor with `0` before further digits.
 fn is_plain(word: &str) -> bool
-    ensures { result ≡ words.is_plain word.now }
+    ensures { result ≡ words.is_plain_word word.now }
 {
     match word.as_bytes() {
         [] => true,

@@ -10,7 +10,7 @@ use Rattle.dh_plan.specs.PlainPlans.{PlainPlan, operations_before, block_operati
 use Rattle.dh_plan.specs.ScheduleLaws.{without_limits}
 use Rattle.dh_plan.proofs.LeastLengths.{same_clocks, blocks_within, clocks_long, has_least_lengths}
 use Rattle.dh_backend.specs.NetParts.{AreTimesOf}
-use Rattle.dh_backend.specs.SuitedPlans.{AreUpTo, AreWords, low_words, TimesAreSmall}
+use Rattle.dh_backend.specs.SuitedPlans.{AreUpTo, AreWordSized, low_words, TimesAreSmall}
 use Rattle.dh_backend.specs.declared.times.Times.{Times}
 use Rattle.dh_backend.proofs.ShortBlocks.{least_clocks_early, blocks_are_short}
 
@@ -90,7 +90,7 @@ low_turn ns i ws vs h e p =
     p ∙ (ap (λ xs. xs ++ (get_or ns i 0 % 2 ^ 64) ∷ []) e ∙ (sym (low_more ns i h) ∙ ap (λ k. low_words (take k ns)) next))
 
 -- words are their lowest bits
-low_same : (ns : List ℕ) → AreWords ns → low_words ns ≡ ns
+low_same : (ns : List ℕ) → AreWordSized ns → low_words ns ≡ ns
 low_same [] h = refl
 low_same (n ∷ ns) h =
     let x : n % 2 ^ 64 ≡ n = mod-eq_of_lt h.0 in
@@ -98,7 +98,7 @@ low_same (n ∷ ns) h =
     cc
 
 -- numbers up to one below 2^64 are words
-pub up_to_words : (most : ℕ) (ns : List ℕ) → most < 2 ^ 64 → AreUpTo most ns → AreWords ns
+pub up_to_words : (most : ℕ) (ns : List ℕ) → most < 2 ^ 64 → AreUpTo most ns → AreWordSized ns
 up_to_words most [] small h = tt
 up_to_words most (n ∷ ns) small h = let l = h.0 in (omega (arith, l, small), up_to_words most ns small h.1)
 
@@ -115,6 +115,6 @@ times_told plan timing t h clocks lengths few =
     let is_lengths = lengths ∙ low_same timing.lengths l in
     record {
       same = λ i. record { clocks = is_clocks i; lengths = is_lengths i };
-      clocks = subst AreWords (sym is_clocks) c;
-      lengths = subst AreWords (sym is_lengths) l;
+      clocks = subst AreWordSized (sym is_clocks) c;
+      lengths = subst AreWordSized (sym is_lengths) l;
     }

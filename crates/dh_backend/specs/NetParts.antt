@@ -14,7 +14,7 @@ use Rattle.dh_plan.specs.SeenGraphs.{IsGraphOf}
 use Rattle.dh_plan.specs.SeenPlans.{plan_seen}
 use Rattle.dh_flow.specs.StraightGraphs.{IsOneThread, NeverForks, StaysOneThread}
 use Rattle.dh_backend.specs.OneThread.{GoesWithin}
-use Rattle.dh_backend.specs.SuitedPlans.{FitsNets, AreWords}
+use Rattle.dh_backend.specs.SuitedPlans.{FitsNets, AreWordSized}
 use Rattle.dh_backend.specs.declared.parts.NetParts.{NetParts}
 use Rattle.dh_backend.specs.declared.parts.Passed.{Passed}
 use Rattle.dh_backend.specs.declared.times.Times.{Times}
@@ -25,8 +25,8 @@ times_seen t = record { clocks = t.clocks; lengths = t.lengths }
 -- they are those of a schedule, in words
 pub record AreTimesOf (timing : Timing) (t : Times) : Type 0 where
   pub same : times_seen t ≡ timing
-  pub clocks : AreWords t.clocks
-  pub lengths : AreWords t.lengths
+  pub clocks : AreWordSized t.clocks
+  pub lengths : AreWordSized t.lengths
 
 -- the graph, the schedule without limits and the binding of a plan
 pub record ArePassed (plan : PlainPlan) (m : Passed) : Type 0 where
@@ -34,8 +34,8 @@ pub record ArePassed (plan : PlainPlan) (m : Passed) : Type 0 where
   pub least : IsLeastSchedule plan without_limits (times_seen m.times)
   pub bound : IsBinding plan (times_seen m.times) (uses_seen m.binding)
   -- in words of 64 bits; no block takes no clock
-  pub clocks : AreWords m.times.clocks
-  pub lengths : AreWords m.times.lengths
+  pub clocks : AreWordSized m.times.clocks
+  pub lengths : AreWordSized m.times.lengths
   pub some : AllByRecursion (λ n. 1 ≤ n) m.times.lengths
   -- of a plan of one thread no way forks
   pub thread : StaysOneThread plan m.graph

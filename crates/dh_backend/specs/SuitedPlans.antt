@@ -27,8 +27,8 @@ pub record FitsNets (plan : PlainPlan) : Type 0 where
   pub faults : length plan.faults < 2 ^ 32
 
 -- numbers of 64 bits
-abbrev pub AreWords : List ℕ → Type 0
-AreWords ns = AllByRecursion (λ n. n < 2 ^ 64) ns
+abbrev pub AreWordSized : List ℕ → Type 0
+AreWordSized ns = AllByRecursion (λ n. n < 2 ^ 64) ns
 
 -- numbers up to a greatest
 abbrev pub AreUpTo : (most : ℕ) → List ℕ → Type 0

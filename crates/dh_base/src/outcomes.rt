@@ -1,5 +1,8 @@
 //! How a run stands after a number of logical steps.
 
+ghost use Rattle.std.specs.Prelude.{◌≡◌};
+ghost use Rattle.dh_base.specs.Faults.{fault_name};
+
 use crate::places::Place;
 
 /// What can go wrong in a logical step of a checked program.
@@ -7,6 +10,17 @@ use crate::places::Place;
 pub enum FaultKind {
     /// An access whose index is not within its memory's sizes.
     OutOfRange,
+}
+
+impl FaultKind {
+    /// Its name, as reports and texts have it.
+    pub fn name(self) -> &'static str
+        ensures { result.now ≡ fault_name self }
+    {
+        match self {
+            FaultKind::OutOfRange => "OutOfRange",
+        }
+    }
 }
 
 /// How a run stands after a number of logical steps.

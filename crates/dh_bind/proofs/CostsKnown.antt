@@ -15,8 +15,8 @@ use Rattle.dh_plan.specs.declared.operations.Reach.{Reach}
 use Rattle.dh_plan.specs.Passes.{MayBind}
 use Rattle.dh_plan.specs.PlainPlans.{PlainPlan}
 use Rattle.dh_plan.specs.SoundPlans.{use_in, HasUse, IsListed, IsFormed, KeepsItsPorts, place_charge, use_charge, operations_charge, blocks_charge, plan_charge}
-use Rattle.dh_bind.specs.Drafts.{all_operations, rows_of, width_of, cell_of, flattened, AllUses}
-use Rattle.dh_bind.specs.Costs.{Costs, AreCosts, memory_at, cost_on, cost, raw_use, raw_charge, use_memory, last_memory, Noted, costs_in, FitsRows}
+use Rattle.dh_bind.specs.Drafts.{all_operations, operations_rows, operations_width, cell_of, flattened, AllUses}
+use Rattle.dh_bind.specs.Costs.{Costs, AreCosts, memory_of_access, cost_on, cost, raw_use, raw_charge, use_memory, last_memory, Noted, costs_in, FitsRows}
 use Rattle.dh_bind.proofs.Begun.{ends_within}
 use Rattle.dh_bind.proofs.Charged.{use_access, place_charged, load_fits}
 use Rattle.dh_bind.proofs.Driven.{suits}
@@ -45,10 +45,10 @@ places_few plan formed keeps b i r bank place h listed =
     let few = few_ports plan.table r.memory formed.table.entries in
     omega (arith, below, within, loaded, few)
 
-pub fit_rows : (plan : PlainPlan) → IsFormed plan → KeepsItsPorts plan → AllUses (FitsRows (rows_of (all_operations plan.blocks)) (width_of (all_operations plan.blocks))) (all_operations plan.blocks)
-fit_rows plan formed keeps = uses_of_blocks plan (FitsRows (rows_of (all_operations plan.blocks)) (width_of (all_operations plan.blocks))) (λ b i r h. record {
+pub fit_rows : (plan : PlainPlan) → IsFormed plan → KeepsItsPorts plan → AllUses (FitsRows (operations_rows (all_operations plan.blocks)) (operations_width (all_operations plan.blocks))) (all_operations plan.blocks)
+fit_rows plan formed keeps = uses_of_blocks plan (FitsRows (operations_rows (all_operations plan.blocks)) (operations_width (all_operations plan.blocks))) (λ b i r h. record {
   access = use_has_row plan b i r h;
-  banks = all_both (λ x. x.0 < width_of (all_operations plan.blocks)) (λ x. x.1 < 8) r.banks (banks_fit plan b i r h) (all_listed (λ x. x.1 < 8) r.banks (λ bank place listed. places_few plan formed keeps b i r bank place h listed));
+  banks = all_both (λ x. x.0 < operations_width (all_operations plan.blocks)) (λ x. x.1 < 8) r.banks (banks_fit plan b i r h) (all_listed (λ x. x.1 < 8) r.banks (λ bank place listed. places_few plan formed keeps b i r bank place h listed));
 })
 
 -- the last memory, where all are one
@@ -147,10 +147,10 @@ all_tied access memory bank n (o ∷ os) all =
 
 -- all of it, of tables that held nothing at first
 module _ (plan : PlainPlan) (formed : IsFormed plan) (old new : Costs) (noted : Noted new.wide (all_operations plan.blocks) old new)
-    (none : (access : ℕ) → memory_at old.memories access ≡ None) (zeros : (cell : ℕ) → slice_index old.counts cell ≡ 0)
-    (rows : length old.memories ≡ rows_of (all_operations plan.blocks)) (cells : length old.counts ≡ length old.memories * new.wide)
-    (wide : new.wide ≡ width_of (all_operations plan.blocks)) where
-  memory_is : (access : ℕ) → access < length old.memories → memory_at new.memories access ≡ last_memory access (all_operations plan.blocks) None
+    (none : (access : ℕ) → memory_of_access old.memories access ≡ None) (zeros : (cell : ℕ) → slice_index old.counts cell ≡ 0)
+    (rows : length old.memories ≡ operations_rows (all_operations plan.blocks)) (cells : length old.counts ≡ length old.memories * new.wide)
+    (wide : new.wide ≡ operations_width (all_operations plan.blocks)) where
+  memory_is : (access : ℕ) → access < length old.memories → memory_of_access new.memories access ≡ last_memory access (all_operations plan.blocks) None
   memory_is access h = noted.memories access h ∙ ap (λ (m : Option ℕ). last_memory access (all_operations plan.blocks) m) (none access)
 
   row_there : (b i : ℕ) (r : Reach) → HasUse plan b i r → r.access < length old.memories
@@ -159,33 +159,33 @@ module _ (plan : PlainPlan) (formed : IsFormed plan) (old new : Costs) (noted : 
   all_one : (b i : ℕ) (r : Reach) → HasUse plan b i r → AllUses (λ q. q.access ≡ r.access → q.memory ≡ r.memory) (all_operations plan.blocks)
   all_one b i r h = uses_of_blocks plan (λ q. q.access ≡ r.access → q.memory ≡ r.memory) (λ c j q k e. formed.one_memory c b j i q r (use_access plan c j q k) (use_access plan b i r h) e)
 
-  pub memories_known : (b i : ℕ) (r : Reach) → HasUse plan b i r → memory_at new.memories r.access ≡ Some r.memory
+  pub memories_known : (b i : ℕ) (r : Reach) → HasUse plan b i r → memory_of_access new.memories r.access ≡ Some r.memory
   memories_known b i r h =
       memory_is r.access (row_there b i r h)
       ∙ last_finds r.access r.memory (all_operations plan.blocks) None _ h.operation r (use_in_all plan b i r h) h.uses refl (all_one b i r h)
 
-  tied : (access : ℕ) → AllUses (λ r. r.access ≡ access → memory_at new.memories access ≡ Some r.memory) (all_operations plan.blocks)
-  tied access = uses_of_blocks plan (λ r. r.access ≡ access → memory_at new.memories access ≡ Some r.memory)
-      (λ b i r h e. subst (λ (a : ℕ). memory_at new.memories a ≡ Some r.memory) e (memories_known b i r h))
+  tied : (access : ℕ) → AllUses (λ r. r.access ≡ access → memory_of_access new.memories access ≡ Some r.memory) (all_operations plan.blocks)
+  tied access = uses_of_blocks plan (λ r. r.access ≡ access → memory_of_access new.memories access ≡ Some r.memory)
+      (λ b i r h e. subst (λ (a : ℕ). memory_of_access new.memories a ≡ Some r.memory) e (memories_known b i r h))
 
-  past : (access : ℕ) → length old.memories ≤ access → memory_at new.memories access ≡ None
+  past : (access : ℕ) → length old.memories ≤ access → memory_of_access new.memories access ≡ None
   past access h = ap flattened (slice_get_past new.memories access (let r = noted.rows in omega (arith, r, h)))
 
   count_is : (access bank : ℕ) → access < length old.memories → bank < new.wide → slice_index new.counts (cell_of new.wide access bank) ≡ raw_charge access bank (all_operations plan.blocks)
   count_is access bank h below =
       noted.counts access bank h below ∙ (ap (λ (n : ℕ). max n (raw_charge access bank (all_operations plan.blocks))) (zeros (cell_of new.wide access bank)) ∙ sym (none_most (raw_charge access bank (all_operations plan.blocks))))
 
-  charge_flat : (memory bank access : ℕ) → plan_charge plan memory bank access ≡ cost_on (memory_at new.memories access) memory (raw_charge access bank (all_operations plan.blocks))
-  charge_flat memory bank access = charges_flat access memory bank plan.blocks ∙ all_tied access memory bank (memory_at new.memories access) (all_operations plan.blocks) (tied access)
+  charge_flat : (memory bank access : ℕ) → plan_charge plan memory bank access ≡ cost_on (memory_of_access new.memories access) memory (raw_charge access bank (all_operations plan.blocks))
+  charge_flat memory bank access = charges_flat access memory bank plan.blocks ∙ all_tied access memory bank (memory_of_access new.memories access) (all_operations plan.blocks) (tied access)
 
   pub charges_known : (memory bank access : ℕ) → bank < new.wide → cost new memory bank access ≡ plan_charge plan memory bank access
   charges_known memory bank access below = elim (cases_lt access (length old.memories)) [
-    | inl h ↦ ap (λ (n : ℕ). cost_on (memory_at new.memories access) memory n) (count_is access bank h below) ∙ sym (charge_flat memory bank access)
+    | inl h ↦ ap (λ (n : ℕ). cost_on (memory_of_access new.memories access) memory n) (count_is access bank h below) ∙ sym (charge_flat memory bank access)
     | inr h ↦ ap (λ (m : Option ℕ). cost_on m memory (slice_index new.counts (cell_of new.wide access bank))) (past access h)
         ∙ sym (charge_flat memory bank access ∙ ap (λ (m : Option ℕ). cost_on m memory (raw_charge access bank (all_operations plan.blocks))) (past access h))
   ]
 
-  pub memories_inside : (access memory : ℕ) → memory_at new.memories access ≡ Some memory → memory < length plan.table
+  pub memories_inside : (access memory : ℕ) → memory_of_access new.memories access ≡ Some memory → memory < length plan.table
   memories_inside access memory e = elim (cases_lt access (length old.memories)) [
     | inl h ↦ last_from access memory (length plan.table) (all_operations plan.blocks) None (λ f. absurd (let g : None ≡ Some memory = f in cc))
         (uses_of_blocks plan (λ r. r.memory < length plan.table) (λ b i r k. (suits plan formed b i r k).memory)) (sym (memory_is access h) ∙ e)
@@ -203,7 +203,7 @@ module _ (plan : PlainPlan) (formed : IsFormed plan) (old new : Costs) (noted : 
   }
 
 -- so of tables that begin with nothing
-none_at : (n access : ℕ) → memory_at (replicate n None) access ≡ None
+none_at : (n access : ℕ) → memory_of_access (replicate n None) access ≡ None
 none_at zero access = refl
 none_at (suc n) zero = refl
 none_at (suc n) (suc access) = none_at n access
@@ -213,17 +213,17 @@ zero_at zero cell = refl
 zero_at (suc n) zero = refl
 zero_at (suc n) (suc cell) = zero_at n cell
 
-pub fit_rows_of : (plan : PlainPlan) → MayBind plan → (bs : List PlanBlock) → bs ≡ plan.blocks → (n : ℕ) → n ≡ rows_of (all_operations bs) → (w : ℕ) → w ≡ width_of (all_operations bs) → AllUses (FitsRows n w) (all_operations bs)
+pub fit_rows_of : (plan : PlainPlan) → MayBind plan → (bs : List PlanBlock) → bs ≡ plan.blocks → (n : ℕ) → n ≡ operations_rows (all_operations bs) → (w : ℕ) → w ≡ operations_width (all_operations bs) → AllUses (FitsRows n w) (all_operations bs)
 fit_rows_of plan may bs e n f w g =
     subst (λ (k : ℕ). AllUses (FitsRows k w) (all_operations bs)) (sym f)
-    (subst (λ (k : ℕ). AllUses (FitsRows (rows_of (all_operations bs)) k) (all_operations bs)) (sym g)
-    (subst (λ (l : List PlanBlock). AllUses (FitsRows (rows_of (all_operations l)) (width_of (all_operations l))) (all_operations l)) (sym e) (fit_rows plan may.sound.formed may.ports)))
+    (subst (λ (k : ℕ). AllUses (FitsRows (operations_rows (all_operations bs)) k) (all_operations bs)) (sym g)
+    (subst (λ (l : List PlanBlock). AllUses (FitsRows (operations_rows (all_operations l)) (operations_width (all_operations l))) (all_operations l)) (sym e) (fit_rows plan may.sound.formed may.ports)))
 
-pub costs_begun : (plan : PlainPlan) → MayBind plan → (bs : List PlanBlock) → bs ≡ plan.blocks → (n : ℕ) → n ≡ rows_of (all_operations bs) → (w : ℕ) → w ≡ width_of (all_operations bs) → (m k : List (Option ℕ)) (c d : List ℕ) → m ≡ replicate n None → (p : ℕ) → p ≡ n * w → c ≡ replicate p 0
+pub costs_begun : (plan : PlainPlan) → MayBind plan → (bs : List PlanBlock) → bs ≡ plan.blocks → (n : ℕ) → n ≡ operations_rows (all_operations bs) → (w : ℕ) → w ≡ operations_width (all_operations bs) → (m k : List (Option ℕ)) (c d : List ℕ) → m ≡ replicate n None → (p : ℕ) → p ≡ n * w → c ≡ replicate p 0
     → Noted w (all_operations bs) (costs_in w m c) (costs_in w k d) → AreCosts plan (costs_in w k d)
 costs_begun plan may bs e n f w g m k c d h p q z noted =
     are_costs plan may.sound.formed (costs_in w m c) (costs_in w k d) (subst (λ (l : List PlanBlock). Noted w (all_operations l) (costs_in w m c) (costs_in w k d)) e noted)
-    (λ access. ap (λ (l : List (Option ℕ)). memory_at l access) h ∙ none_at n access) (λ cell. ap (λ (l : List ℕ). slice_index l cell) z ∙ zero_at p cell)
-    (ap (λ (l : List (Option ℕ)). length l) h ∙ (length-replicate n None ∙ (f ∙ ap (λ (l : List PlanBlock). rows_of (all_operations l)) e)))
+    (λ access. ap (λ (l : List (Option ℕ)). memory_of_access l access) h ∙ none_at n access) (λ cell. ap (λ (l : List ℕ). slice_index l cell) z ∙ zero_at p cell)
+    (ap (λ (l : List (Option ℕ)). length l) h ∙ (length-replicate n None ∙ (f ∙ ap (λ (l : List PlanBlock). operations_rows (all_operations l)) e)))
     (ap (λ (l : List ℕ). length l) z ∙ (length-replicate p 0 ∙ (q ∙ sym (ap (λ (l : List (Option ℕ)). length l * w) h ∙ ap (λ (x : ℕ). x * w) (length-replicate n None)))))
-    (g ∙ ap (λ (l : List PlanBlock). width_of (all_operations l)) e)
+    (g ∙ ap (λ (l : List PlanBlock). operations_width (all_operations l)) e)

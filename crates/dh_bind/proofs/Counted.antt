@@ -10,7 +10,7 @@ use Rattle.dh_plan.specs.declared.operations.PlanBlock.{PlanBlock}
 use Rattle.dh_plan.specs.BoundPorts.{Uses, AreUnits}
 use Rattle.dh_plan.specs.LegalSchedules.{Timing, is_product, products_at, clocks_in}
 use Rattle.dh_plan.specs.PlainPlans.{PlainPlan, first_in, operations_in, operations_before, operation_count, block_operations}
-use Rattle.dh_bind.specs.Units.{more_at, BlockUnits, AreCounted}
+use Rattle.dh_bind.specs.Units.{more_at, BlockUnits, AreUnitNumbers}
 use Rattle.dh_bind.proofs.Flat.{got}
 
 -- at most as many multiplications as operations
@@ -131,8 +131,8 @@ block_there (x ∷ bs) zero i o e = omega arith
 block_there (x ∷ bs) (suc b) i o e = let k = block_there bs b i o e in omega (arith, k)
 
 -- one block on
-pub counted_turn : (plan : PlainPlan) (t : Timing) (n : ℕ) (p : PlanBlock) (cs units next : List ℕ) → slice_get plan.blocks n ≡ Some p → AreCounted plan t n units → BlockUnits p.operations cs (length p.operations) units next
-    → cs ≡ clocks_in plan t n → AreCounted plan t (n + 1) next
+pub counted_turn : (plan : PlainPlan) (t : Timing) (n : ℕ) (p : PlanBlock) (cs units next : List ℕ) → slice_get plan.blocks n ≡ Some p → AreUnitNumbers plan t n units → BlockUnits p.operations cs (length p.operations) units next
+    → cs ≡ clocks_in plan t n → AreUnitNumbers plan t (n + 1) next
 counted_turn plan t n p cs units next there so block clocks = record {
   long = ap (λ (l : List ℕ). length l) block.behind ∙ (length-append units block.units ∙ (let a = so.long in let b = block.long in let c = before_next plan.blocks n p there in omega (arith, a, b, c)));
   each = λ b i o below at product. elim (cases_eq b n) [
@@ -160,7 +160,7 @@ counted_turn plan t n p cs units next there so block clocks = record {
         ∙ (ap (λ (l : List ℕ). products_at (slice_index l i) (take i p.operations) (take i l)) clocks
         ∙ ap (λ (l : List Operation). products_at (slice_index (clocks_in plan t n) i) (take i l) (take i (clocks_in plan t n))) (sym ops_are)))))
 
-pub counted_none : (plan : PlainPlan) (t : Timing) → AreCounted plan t 0 []
+pub counted_none : (plan : PlainPlan) (t : Timing) → AreUnitNumbers plan t 0 []
 counted_none plan t = record { long = before_none plan.blocks; each = λ b i o below at product. absurd (let k = below in omega (arith, k)) }
 
 -- the clocks of a block, at the front of those that are left
@@ -184,7 +184,7 @@ rest_next plan t n p there rest behind e os f g =
     ∙ ap (λ (k : ℕ). drop k t.clocks) (ap (λ (l : List Operation). operations_before plan.blocks n + length l) f ∙ sym (before_next plan.blocks n p there))))
 
 -- counted multipliers are multipliers
-module _ (plan : PlainPlan) (t : Timing) (u : Uses) (counted : AreCounted plan t (length plan.blocks) u.units) (all_clocks : length t.clocks ≡ operation_count plan) where
+module _ (plan : PlainPlan) (t : Timing) (u : Uses) (counted : AreUnitNumbers plan t (length plan.blocks) u.units) (all_clocks : length t.clocks ≡ operation_count plan) where
   block_most : (bs : List PlanBlock) (b i : ℕ) (o : Operation) → slice_get (block_operations (slice_get bs b)) i ≡ Some o → operations_before bs b + length (block_operations (slice_get bs b)) ≤ operations_before bs (length bs)
   block_most [] b i o e = absurd (let f : None ≡ Some o = e in cc)
   block_most (x ∷ bs) zero i o e = omega arith

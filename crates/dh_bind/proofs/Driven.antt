@@ -22,7 +22,7 @@ use Rattle.dh_plan.specs.PlainPlans.{PlainPlan, first_in}
 use Rattle.dh_plan.specs.PlanKinds.{ReachSuits, FormSuits, kinds_of}
 use Rattle.dh_plan.specs.SoundPlans.{use_in, HasUse, IsListed, IsFormed}
 use Rattle.dh_plan.specs.SeenPlans.{plan_seen}
-use Rattle.dh_bind.specs.Drafts.{all_operations, width_of, width_in, cell_of, flattened, first_at, put_first, pair_with, pairs_of, use_pairs, all_pairs, Draft, IsDraft, uses_of, accesses_of, granted_at, AllUses}
+use Rattle.dh_bind.specs.Drafts.{all_operations, operations_width, draft_width, cell_of, flattened, first_at, put_first, pair_with, pairs_of, use_pairs, all_pairs, Draft, IsDraft, draft_uses, draft_access_count, granted_at, AllUses}
 use Rattle.dh_bind.proofs.Cells.{cell_inside, cells_alike, rows_apart}
 use Rattle.dh_bind.proofs.Flat.{use_in_all, uses_of_blocks}
 use Rattle.dh_bind.proofs.Widths.{banks_fit, width_most}
@@ -60,11 +60,11 @@ banks_below plan formed b i r h =
     all_weaker (λ x. x.0 < banks_of (dims_at plan.table r.memory)) (λ x. x.0 < 64) (λ x below. omega (arith, few, below)) r.banks s.banks.there
 
 -- so rows are no wider
-pub few_wide : (plan : PlainPlan) → IsFormed plan → width_of (all_operations plan.blocks) ≤ 64
+pub few_wide : (plan : PlainPlan) → IsFormed plan → operations_width (all_operations plan.blocks) ≤ 64
 few_wide plan formed = width_most 64 (all_operations plan.blocks) (uses_of_blocks plan (λ r. AllByRecursion (λ x. x.0 < 64) r.banks) (banks_below plan formed))
 
-pub width_fits : (plan : PlainPlan) → IsFormed plan → (bs : List PlanBlock) → bs ≡ plan.blocks → (wide : ℕ) → wide ≡ width_of (all_operations bs) → wide ≤ 64
-width_fits plan formed bs e wide f = subst (λ (n : ℕ). n ≤ 64) (sym (f ∙ ap (λ (l : List PlanBlock). width_of (all_operations l)) e)) (few_wide plan formed)
+pub width_fits : (plan : PlainPlan) → IsFormed plan → (bs : List PlanBlock) → bs ≡ plan.blocks → (wide : ℕ) → wide ≡ operations_width (all_operations bs) → wide ≤ 64
+width_fits plan formed bs e wide f = subst (λ (n : ℕ). n ≤ 64) (sym (f ∙ ap (λ (l : List PlanBlock). operations_width (all_operations l)) e)) (few_wide plan formed)
 
 -- a bank that is listed is one that all listed are
 pub listed_fits : (n bank place : ℕ) (bs : List (ℕ × ℕ)) → AllByRecursion (λ x. x.0 < n) bs → IsListed bank place bs → bank < n
@@ -196,36 +196,36 @@ first_kept wide firsts access bank first a b k other = elim (cases_lt bank wide)
 
 -- so a token drives the operations of its access on its bank
 module _ (d : Draft) (formed : IsFormed (plan_seen d.plan)) where
-  pub few_banks : AllUses (λ r. AllByRecursion (λ x. x.0 < width_in d) r.banks) (all_operations d.plan.blocks)
-  few_banks = uses_of_blocks (plan_seen d.plan) (λ r. AllByRecursion (λ x. x.0 < width_in d) r.banks) (banks_fit (plan_seen d.plan))
+  pub few_banks : AllUses (λ r. AllByRecursion (λ x. x.0 < draft_width d) r.banks) (all_operations d.plan.blocks)
+  few_banks = uses_of_blocks (plan_seen d.plan) (λ r. AllByRecursion (λ x. x.0 < draft_width d) r.banks) (banks_fit (plan_seen d.plan))
 
   used_pairs : (firsts : List (Option ℕ)) (b i : ℕ) (r : Reach) → HasUse (plan_seen d.plan) b i r
-      → slice_index_or (all_pairs (width_in d) firsts (all_operations d.plan.blocks)) (first_in (plan_seen d.plan) b + i) [] ≡ pairs_of (width_in d) firsts r.access r.banks
+      → slice_index_or (all_pairs (draft_width d) firsts (all_operations d.plan.blocks)) (first_in (plan_seen d.plan) b + i) [] ≡ pairs_of (draft_width d) firsts r.access r.banks
   used_pairs firsts b i r h =
-      pairs_at (width_in d) firsts (all_operations d.plan.blocks) (first_in (plan_seen d.plan) b + i) h.operation (use_in_all (plan_seen d.plan) b i r h)
-      ∙ ap (λ (u : Option Reach). use_pairs (width_in d) firsts u) h.uses
+      pairs_at (draft_width d) firsts (all_operations d.plan.blocks) (first_in (plan_seen d.plan) b + i) h.operation (use_in_all (plan_seen d.plan) b i r h)
+      ∙ ap (λ (u : Option Reach). use_pairs (draft_width d) firsts u) h.uses
 
   -- the port of an operation is the first one of its access, and its place
-  pub port_at : (b i bank place first : ℕ) (r : Reach) → HasUse (plan_seen d.plan) b i r → IsListed bank place r.banks → first_at (width_in d) d.firsts r.access bank ≡ Some first
-      → port_used (plan_seen d.plan) (uses_of d) b i bank ≡ Some (first + place)
+  pub port_at : (b i bank place first : ℕ) (r : Reach) → HasUse (plan_seen d.plan) b i r → IsListed bank place r.banks → first_at (draft_width d) d.firsts r.access bank ≡ Some first
+      → port_used (plan_seen d.plan) (draft_uses d) b i bank ≡ Some (first + place)
   port_at b i bank place first r h listed e =
       ap (λ (ps : List (ℕ × ℕ)). port_among bank ps) (used_pairs d.firsts b i r h)
-      ∙ pairs_among (width_in d) d.firsts r.access bank place first r.banks (suits (plan_seen d.plan) formed b i r h).banks.once listed e
+      ∙ pairs_among (draft_width d) d.firsts r.access bank place first r.banks (suits (plan_seen d.plan) formed b i r h).banks.once listed e
 
-pub drives : (d : Draft) → IsDraft d → (access memory bank first : ℕ) → access < accesses_of d → Drives (plan_seen d.plan) access memory bank first (uses_of d) (uses_of (granted_at d access bank first))
+pub drives : (d : Draft) → IsDraft d → (access memory bank first : ℕ) → access < draft_access_count d → Drives (plan_seen d.plan) access memory bank first (draft_uses d) (draft_uses (granted_at d access bank first))
 drives d is access memory bank first inside = record {
   driven = λ b i place r h same same_memory listed.
-      (let few = listed_fits (width_in d) bank place r.banks (banks_fit (plan_seen d.plan) b i r h) listed in
+      (let few = listed_fits (draft_width d) bank place r.banks (banks_fit (plan_seen d.plan) b i r h) listed in
       port_at (granted_at d access bank first) is.formed b i bank place first r h listed
-      (ap (λ (a : ℕ). first_at (width_in d) (put_first (width_in d) d.firsts access bank first) a bank) same
-      ∙ first_set (width_in d) d.firsts access bank first few (subst (λ (n : ℕ). cell_of (width_in d) access bank < n) (sym is.long) (cell_inside (accesses_of d) (width_in d) access bank inside few))));
+      (ap (λ (a : ℕ). first_at (draft_width d) (put_first (draft_width d) d.firsts access bank first) a bank) same
+      ∙ first_set (draft_width d) d.firsts access bank first few (subst (λ (n : ℕ). cell_of (draft_width d) access bank < n) (sym is.long) (cell_inside (draft_access_count d) (draft_width d) access bank inside few))));
   other_banks = λ b i other differs.
-      all_same (width_in d) (put_first (width_in d) d.firsts access bank first) d.firsts (all_operations d.plan.blocks) (first_in (plan_seen d.plan) b + i) other (few_banks d is.formed)
-      (λ a below. first_kept (width_in d) d.firsts access bank first a other below (λ e. differs e.1));
+      all_same (draft_width d) (put_first (draft_width d) d.firsts access bank first) d.firsts (all_operations d.plan.blocks) (first_in (plan_seen d.plan) b + i) other (few_banks d is.formed)
+      (λ a below. first_kept (draft_width d) d.firsts access bank first a other below (λ e. differs e.1));
   other_accesses = λ b i r h differs.
-      ap (λ (ps : List (ℕ × ℕ)). port_among bank ps) (used_pairs d is.formed (put_first (width_in d) d.firsts access bank first) b i r h)
-      ∙ (pairs_same (width_in d) (put_first (width_in d) d.firsts access bank first) d.firsts r.access bank r.banks (banks_fit (plan_seen d.plan) b i r h)
-      (λ below. first_kept (width_in d) d.firsts access bank first r.access bank below (λ e. differs e.0))
+      ap (λ (ps : List (ℕ × ℕ)). port_among bank ps) (used_pairs d is.formed (put_first (draft_width d) d.firsts access bank first) b i r h)
+      ∙ (pairs_same (draft_width d) (put_first (draft_width d) d.firsts access bank first) d.firsts r.access bank r.banks (banks_fit (plan_seen d.plan) b i r h)
+      (λ below. first_kept (draft_width d) d.firsts access bank first r.access bank below (λ e. differs e.0))
       ∙ sym (ap (λ (ps : List (ℕ × ℕ)). port_among bank ps) (used_pairs d is.formed d.firsts b i r h)));
   units = refl;
 }
@@ -234,23 +234,23 @@ abbrev made : Plan → List (Option ℕ) → Draft
 made plan firsts = record { plan = plan; firsts = firsts }
 
 -- the draft of which the fields are seen, and what a token drives
-pub granted_fields : (d fields : Draft) → fields ≡ d → (wide : ℕ) → wide ≡ width_in fields → (access bank first : ℕ) (next : List (Option ℕ)) → next ≡ put_first wide fields.firsts access bank first
+pub granted_fields : (d fields : Draft) → fields ≡ d → (wide : ℕ) → wide ≡ draft_width fields → (access bank first : ℕ) (next : List (Option ℕ)) → next ≡ put_first wide fields.firsts access bank first
     → record { plan = fields.plan; firsts = next } ≡ granted_at d access bank first
 granted_fields d fields same wide w access bank first next e =
     ap (λ (xs : List (Option ℕ)). made fields.plan xs) (e ∙ ap (λ (n : ℕ). put_first n fields.firsts access bank first) w) ∙ ap (λ (x : Draft). granted_at x access bank first) same
 
-pub drives_fields : (d fields : Draft) → fields ≡ d → IsDraft fields → (wide : ℕ) → wide ≡ width_in fields → (access memory bank first : ℕ) (next : List (Option ℕ)) → access < accesses_of d → next ≡ put_first wide fields.firsts access bank first
-    → Drives (plan_seen d.plan) access memory bank first (uses_of d) (uses_of (record { plan = fields.plan; firsts = next }))
+pub drives_fields : (d fields : Draft) → fields ≡ d → IsDraft fields → (wide : ℕ) → wide ≡ draft_width fields → (access memory bank first : ℕ) (next : List (Option ℕ)) → access < draft_access_count d → next ≡ put_first wide fields.firsts access bank first
+    → Drives (plan_seen d.plan) access memory bank first (draft_uses d) (draft_uses (record { plan = fields.plan; firsts = next }))
 drives_fields d fields same is wide w access memory bank first next inside e =
     let there : IsDraft d = subst (λ (x : Draft). IsDraft x) same is in
-    subst (λ (x : Draft). Drives (plan_seen d.plan) access memory bank first (uses_of d) (uses_of x)) (sym (granted_fields d fields same wide w access bank first next e)) (drives d there access memory bank first inside)
+    subst (λ (x : Draft). Drives (plan_seen d.plan) access memory bank first (draft_uses d) (draft_uses x)) (sym (granted_fields d fields same wide w access bank first next e)) (drives d there access memory bank first inside)
 
 -- the row of an access is inside
-pub row_inside : (d fields : Draft) → fields ≡ d → IsDraft fields → (wide : ℕ) → wide ≡ width_in fields → (access : ℕ) → access < accesses_of d → access * wide + wide ≤ length fields.firsts
+pub row_inside : (d fields : Draft) → fields ≡ d → IsDraft fields → (wide : ℕ) → wide ≡ draft_width fields → (access : ℕ) → access < draft_access_count d → access * wide + wide ≤ length fields.firsts
 row_inside d fields same is wide w access inside =
-    let there : access < accesses_of fields = subst (λ (x : Draft). access < accesses_of x) (sym same) inside in
+    let there : access < draft_access_count fields = subst (λ (x : Draft). access < draft_access_count x) (sym same) inside in
     subst (λ (n : ℕ). access * n + n ≤ length fields.firsts) (sym w)
-    (subst (λ (n : ℕ). access * width_in fields + width_in fields ≤ n) (sym is.long) (rows_apart access (accesses_of fields) (width_in fields) there))
+    (subst (λ (n : ℕ). access * draft_width fields + draft_width fields ≤ n) (sym is.long) (rows_apart access (draft_access_count fields) (draft_width fields) there))
 
-pub row_narrow : (fields : Draft) → IsDraft fields → (wide : ℕ) → wide ≡ width_in fields → wide ≤ 64
+pub row_narrow : (fields : Draft) → IsDraft fields → (wide : ℕ) → wide ≡ draft_width fields → wide ≤ 64
 row_narrow fields is wide w = subst (λ (n : ℕ). n ≤ 64) (sym w) (few_wide (plan_seen fields.plan) is.formed)

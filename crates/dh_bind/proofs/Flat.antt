@@ -10,7 +10,7 @@ use Rattle.dh_plan.specs.declared.operations.PlanBlock.{PlanBlock}
 use Rattle.dh_plan.specs.declared.operations.Reach.{Reach}
 use Rattle.dh_plan.specs.PlainPlans.{PlainPlan, operations_before, first_in, block_operations}
 use Rattle.dh_plan.specs.SoundPlans.{use_in, HasUse}
-use Rattle.dh_bind.specs.Drafts.{all_operations, use_rows, rows_of, AllUses, UsedBy}
+use Rattle.dh_bind.specs.Drafts.{all_operations, use_rows, operations_rows, AllUses, UsedBy}
 
 -- elements of joined lists
 pub get_left : {A : Type 0} (xs ys : List A) (i : ℕ) (x : A) → slice_get xs i ≡ Some x → slice_get (xs ++ ys) i ≡ Some x
@@ -38,19 +38,19 @@ long_all (p ∷ bs) = joined p.operations (all_operations bs) ∙ ap (λ (n : �
     joined (x ∷ xs) ys = let f = joined xs ys in omega (arith, f)
 
 -- a use has a row
-pub rows_among : (os : List Operation) (i : ℕ) (o : Operation) → slice_get os i ≡ Some o → use_rows (use_in o.form) ≤ rows_of os
+pub rows_among : (os : List Operation) (i : ℕ) (o : Operation) → slice_get os i ≡ Some o → use_rows (use_in o.form) ≤ operations_rows os
 rows_among [] i o e = absurd (let f : None ≡ Some o = e in cc)
 rows_among (p ∷ os) zero o e =
-    subst (λ (q : Operation). use_rows (use_in q.form) ≤ rows_of (p ∷ os)) (let f : p ≡ o = (let g : Some p ≡ Some o = e in cc) in f) (le-max_left (use_rows (use_in p.form)) (rows_of os))
+    subst (λ (q : Operation). use_rows (use_in q.form) ≤ operations_rows (p ∷ os)) (let f : p ≡ o = (let g : Some p ≡ Some o = e in cc) in f) (le-max_left (use_rows (use_in p.form)) (operations_rows os))
 rows_among (p ∷ os) (suc i) o e =
     let h = rows_among os i o e in
-    let k = le-max_right (use_rows (use_in p.form)) (rows_of os) in
+    let k = le-max_right (use_rows (use_in p.form)) (operations_rows os) in
     omega (arith, h, k)
 
 pub use_in_all : (plan : PlainPlan) (b i : ℕ) (r : Reach) (h : HasUse plan b i r) → slice_get (all_operations plan.blocks) (first_in plan b + i) ≡ Some h.operation
 use_in_all plan b i r h = in_all plan.blocks b i h.operation h.there
 
-pub use_has_row : (plan : PlainPlan) (b i : ℕ) (r : Reach) → HasUse plan b i r → r.access < rows_of (all_operations plan.blocks)
+pub use_has_row : (plan : PlainPlan) (b i : ℕ) (r : Reach) → HasUse plan b i r → r.access < operations_rows (all_operations plan.blocks)
 use_has_row plan b i r h =
     let k = rows_among (all_operations plan.blocks) (first_in plan b + i) h.operation (use_in_all plan b i r h) in
     let e : use_rows (use_in h.operation.form) ≡ r.access + 1 = ap use_rows h.uses in
@@ -86,8 +86,8 @@ uses_in_block P bs b p e all k o r f h =
     all (operations_before bs b + k) o r (in_all bs b k o (ap (λ (x : Option PlanBlock). slice_get (block_operations x) k) e ∙ f)) h
 
 -- rows of joined lists
-pub rows_joined : (xs ys : List Operation) → rows_of (xs ++ ys) ≡ max (rows_of xs) (rows_of ys)
-rows_joined [] ys = none_most (rows_of ys)
+pub rows_joined : (xs ys : List Operation) → operations_rows (xs ++ ys) ≡ max (operations_rows xs) (operations_rows ys)
+rows_joined [] ys = none_most (operations_rows ys)
   where
     none_most : (n : ℕ) → n ≡ max 0 n
     none_most n = grind arith
@@ -118,8 +118,8 @@ rest_is xs i x h e = drop_more xs i x h ∙ ap (λ (y : _). y ∷ drop (i + 1) x
 next_rows : (a b c n t : ℕ) → max a (max b c) ≡ t → n ≡ max a b → max n c ≡ t
 next_rows a b c n t e f = grind (arith, e, f)
 
-pub rows_step : (bs : List PlanBlock) (i : ℕ) (p : PlanBlock) (rows next total : ℕ) → i < length bs → p ≡ get_or bs i p → max rows (rows_of (all_operations (drop i bs))) ≡ total → next ≡ max rows (rows_of p.operations)
-    → max next (rows_of (all_operations (drop (i + 1) bs))) ≡ total
+pub rows_step : (bs : List PlanBlock) (i : ℕ) (p : PlanBlock) (rows next total : ℕ) → i < length bs → p ≡ get_or bs i p → max rows (operations_rows (all_operations (drop i bs))) ≡ total → next ≡ max rows (operations_rows p.operations)
+    → max next (operations_rows (all_operations (drop (i + 1) bs))) ≡ total
 rows_step bs i p rows next total h e so f =
-    let r : rows_of (all_operations (drop i bs)) ≡ max (rows_of p.operations) (rows_of (all_operations (drop (i + 1) bs))) = ap (λ (ps : List PlanBlock). rows_of (all_operations ps)) (rest_is bs i p h e) ∙ rows_joined p.operations (all_operations (drop (i + 1) bs)) in
-    next_rows rows (rows_of p.operations) (rows_of (all_operations (drop (i + 1) bs))) next total (ap (λ (n : ℕ). max rows n) (sym r) ∙ so) f
+    let r : operations_rows (all_operations (drop i bs)) ≡ max (operations_rows p.operations) (operations_rows (all_operations (drop (i + 1) bs))) = ap (λ (ps : List PlanBlock). operations_rows (all_operations ps)) (rest_is bs i p h e) ∙ rows_joined p.operations (all_operations (drop (i + 1) bs)) in
+    next_rows rows (operations_rows p.operations) (operations_rows (all_operations (drop (i + 1) bs))) next total (ap (λ (n : ℕ). max rows n) (sym r) ∙ so) f

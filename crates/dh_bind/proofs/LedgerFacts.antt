@@ -10,7 +10,7 @@ use Rattle.dh_ledger.specs.Calls.{Grants}
 use Rattle.dh_ledger.specs.Granted.{Granted}
 use Rattle.dh_ledger.specs.Spending.{Spending, spent_on, raised, IsLarger}
 use Rattle.dh_bind.specs.declared.ledgers.Mark.{Mark}
-use Rattle.dh_bind.specs.Ledgers.{spent_in, ports_of, banks_of, spent_at, ports_in, banks_in, Alike, SpentMore, GrantsAt, IsMark, AreMarks, undone, state_or, ends_now, top, Rises}
+use Rattle.dh_bind.specs.Ledgers.{spent_in, spending_ports, spending_banks, spent_at, ports_in, ledger_banks, Alike, SpentMore, GrantsAt, IsMark, AreMarks, undone_ledgers, state_or, ends_now, top, Rises}
 use Rattle.dh_bind.proofs.Driven.{get_set_same, get_set_other, is_not}
 use Rattle.dh_bind.proofs.Flat.{got}
 use Rattle.dh_bind.proofs.Noting.{all_get}
@@ -22,16 +22,16 @@ spent_same ledgers k s bank h = ap (λ (x : Option Spending). spent_in x bank) (
 pub spent_other : (ledgers : List Spending) (k : ℕ) (s : Spending) (m bank : ℕ) → (m ≡ k → ⊥) → spent_at (slice_set ledgers k s) m bank ≡ spent_at ledgers m bank
 spent_other ledgers k s m bank h = ap (λ (x : Option Spending). spent_in x bank) (get_set_other ledgers k m s h)
 
-pub alike_set : (ledgers : List Spending) (k : ℕ) (s : Spending) → k < length ledgers → s.ports ≡ ports_in ledgers k → length s.spent ≡ banks_in ledgers k → Alike ledgers (slice_set ledgers k s)
+pub alike_set : (ledgers : List Spending) (k : ℕ) (s : Spending) → k < length ledgers → s.ports ≡ ports_in ledgers k → length s.spent ≡ ledger_banks ledgers k → Alike ledgers (slice_set ledgers k s)
 alike_set ledgers k s h ports banks = record {
   long = length-set ledgers k s;
   ports = λ m. elim (cases_eq m k) [
-    | inl e ↦ ap (λ (n : ℕ). ports_in (slice_set ledgers k s) n) e ∙ (ap ports_of (get_set_same ledgers k s h) ∙ (ports ∙ ap (λ (n : ℕ). ports_in ledgers n) (sym e)))
-    | inr f ↦ ap ports_of (get_set_other ledgers k m s f)
+    | inl e ↦ ap (λ (n : ℕ). ports_in (slice_set ledgers k s) n) e ∙ (ap spending_ports (get_set_same ledgers k s h) ∙ (ports ∙ ap (λ (n : ℕ). ports_in ledgers n) (sym e)))
+    | inr f ↦ ap spending_ports (get_set_other ledgers k m s f)
   ];
   banks = λ m. elim (cases_eq m k) [
-    | inl e ↦ ap (λ (n : ℕ). banks_in (slice_set ledgers k s) n) e ∙ (ap banks_of (get_set_same ledgers k s h) ∙ (banks ∙ ap (λ (n : ℕ). banks_in ledgers n) (sym e)))
-    | inr f ↦ ap banks_of (get_set_other ledgers k m s f)
+    | inl e ↦ ap (λ (n : ℕ). ledger_banks (slice_set ledgers k s) n) e ∙ (ap spending_banks (get_set_same ledgers k s h) ∙ (banks ∙ ap (λ (n : ℕ). ledger_banks ledgers n) (sym e)))
+    | inr f ↦ ap spending_banks (get_set_other ledgers k m s f)
   ];
 }
 
@@ -108,19 +108,19 @@ module _ (ledgers : List Spending) (memory bank count : ℕ) (s : Spending) (ins
 
   raised_more : SpentMore ledgers (slice_set ledgers memory (raised s bank count)) memory bank count
   raised_more = record {
-    alike = alike_set ledgers memory (raised s bank count) inside (sym (ap ports_of is)) (length-set s.spent bank (spent_on s bank + count) ∙ sym (ap banks_of is));
+    alike = alike_set ledgers memory (raised s bank count) inside (sym (ap spending_ports is)) (length-set s.spent bank (spent_on s bank + count) ∙ sym (ap spending_banks is));
     spent = raised_spent;
     back = λ x. set-set ledgers memory (raised s bank count) x;
   }
 
-pub grants_at : (ledgers : List Spending) (memory bank count : ℕ) (s new : Spending) (result : Result Granted Full) → memory < length ledgers → s ≡ get_or ledgers memory s → bank < banks_in ledgers memory
+pub grants_at : (ledgers : List Spending) (memory bank count : ℕ) (s new : Spending) (result : Result Granted Full) → memory < length ledgers → s ≡ get_or ledgers memory s → bank < ledger_banks ledgers memory
     → Grants s new memory bank count result → GrantsAt ledgers (slice_set ledgers memory new) memory bank count result
 grants_at ledgers memory bank count s new (Ok token) inside e below g =
     let is = got ledgers memory s inside e in
     let number : spent_at ledgers memory bank ≡ spent_on s bank = ap (λ (x : Option Spending). spent_in x bank) is in (
       g.0 ∙ ap (λ (n : ℕ). granted memory bank n count) (sym number),
       subst (λ (x : Spending). SpentMore ledgers (slice_set ledgers memory x) memory bank count) (sym g.1.new_is)
-          (raised_more ledgers memory bank count s inside is (let b : banks_in ledgers memory ≡ length s.spent = ap banks_of is in omega (arith, b, below))),
+          (raised_more ledgers memory bank count s inside is (let b : ledger_banks ledgers memory ≡ length s.spent = ap spending_banks is in omega (arith, b, below))),
     )
   where
     granted : (m b f c : ℕ) → Granted
@@ -128,7 +128,7 @@ grants_at ledgers memory bank count s new (Ok token) inside e below g =
 grants_at ledgers memory bank count s new (Err full) inside e below g =
     let is = got ledgers memory s inside e in
     let number : spent_at ledgers memory bank ≡ spent_on s bank = ap (λ (x : Option Spending). spent_in x bank) is in
-    let ports : ports_in ledgers memory ≡ s.ports = ap ports_of is in
+    let ports : ports_in ledgers memory ≡ s.ports = ap spending_ports is in
     let beyond = g.beyond in
     (ap (λ (x : Spending). slice_set ledgers memory x) (g.new_is ∙ e) ∙ set-get_or ledgers memory s, omega (arith, number, ports, beyond))
 
@@ -148,21 +148,21 @@ ends_turn ledgers log i k s so_far next all h e marks so is f =
 
 -- one change back
 pub back_turn : (log : List Mark) (i : ℕ) (k : Mark) (ledgers start : List Spending) (new : Spending) → 0 < i → i ≤ length log → k ≡ get_or log (i - 1) k → AreMarks start log
-    → ledgers ≡ undone (drop i log) start → Alike start ledgers → new ≡ k.state
-    → (slice_set ledgers k.memory new ≡ undone (drop (i - 1) log) start) × Alike start (slice_set ledgers k.memory new)
+    → ledgers ≡ undone_ledgers (drop i log) start → Alike start ledgers → new ≡ k.state
+    → (slice_set ledgers k.memory new ≡ undone_ledgers (drop (i - 1) log) start) × Alike start (slice_set ledgers k.memory new)
 back_turn log i k ledgers start new more within e marks so alike is =
     let below : i - 1 < length log = omega (arith, more, within) in
     let own : IsMark start k = subst (λ (x : Mark). IsMark start x) (sym e) (all_get (IsMark start) log (i - 1) k marks below) in
     let now : IsMark ledgers k = mark_alike start ledgers k alike own in
     let next : i - 1 + 1 ≡ i = omega (arith, more) in
     let rest : drop (i - 1) log ≡ k ∷ drop i log = drop_more log (i - 1) k below ∙ (ap (λ (x : Mark). x ∷ drop (i - 1 + 1) log) (sym e) ∙ ap (λ (n : ℕ). k ∷ drop n log) next) in (
-      ap (λ (x : Spending). slice_set ledgers k.memory x) is ∙ (ap (λ (x : List Spending). slice_set x k.memory k.state) so ∙ sym (ap (λ (x : List Mark). undone x start) rest)),
+      ap (λ (x : Spending). slice_set ledgers k.memory x) is ∙ (ap (λ (x : List Spending). slice_set x k.memory k.state) so ∙ sym (ap (λ (x : List Mark). undone_ledgers x start) rest)),
       alike_then start ledgers (slice_set ledgers k.memory new) alike
           (subst (λ (x : Spending). Alike ledgers (slice_set ledgers k.memory x)) (sym is) (alike_set ledgers k.memory k.state now.inside now.ports now.banks)),
     )
 
 -- rising
-pub undone_joined : (a b : List Mark) (ledgers : List Spending) → undone (a ++ b) ledgers ≡ undone a (undone b ledgers)
+pub undone_joined : (a b : List Mark) (ledgers : List Spending) → undone_ledgers (a ++ b) ledgers ≡ undone_ledgers a (undone_ledgers b ledgers)
 undone_joined [] b ledgers = refl
 undone_joined (k ∷ a) b ledgers = ap (λ (x : List Spending). slice_set x k.memory k.state) (undone_joined a b ledgers)
 
@@ -204,7 +204,7 @@ rise_one ends start ledgers log now k s state new own e state_is larger so =
     let is : slice_get ledgers k.memory ≡ Some s = got ledgers k.memory s here.inside e in
     record {
       alike = alike_then start ledgers (slice_set ledgers k.memory new) so.alike
-          (alike_set ledgers k.memory new here.inside (sym larger.alike.ports ∙ sym (ap ports_of is)) (sym larger.alike.banks ∙ sym (ap banks_of is)));
+          (alike_set ledgers k.memory new here.inside (sym larger.alike.ports ∙ sym (ap spending_ports is)) (sym larger.alike.banks ∙ sym (ap spending_banks is)));
       spent = λ m b. elim (cases_eq m k.memory) [
         | inl f ↦ rise_up _ (spent_at start m b) (top ends m b) (spent_on k.state b) (spent_at ledgers m b) (top (k ∷ []) m b)
             (ap (λ (n : ℕ). spent_at (slice_set ledgers k.memory new) n b) f ∙ (spent_same ledgers k.memory new b here.inside ∙ (larger.each b
@@ -216,7 +216,7 @@ rise_one ends start ledgers log now k s state new own e state_is larger so =
       more = so.more ++ record { memory = k.memory; state = state } ∷ [];
       log_is = ap (λ (x : List Mark). x ++ record { memory = k.memory; state = state } ∷ []) so.log_is ∙ append_assoc log so.more (record { memory = k.memory; state = state } ∷ []);
       back = undone_joined so.more (record { memory = k.memory; state = state } ∷ []) (slice_set ledgers k.memory new)
-          ∙ (ap (λ (x : List Spending). undone so.more x) (set-set ledgers k.memory new state ∙ (ap (λ (x : Spending). slice_set ledgers k.memory x) (state_is ∙ e) ∙ set-get_or ledgers k.memory s)) ∙ so.back);
+          ∙ (ap (λ (x : List Spending). undone_ledgers so.more x) (set-set ledgers k.memory new state ∙ (ap (λ (x : Spending). slice_set ledgers k.memory x) (state_is ∙ e) ∙ set-get_or ledgers k.memory s)) ∙ so.back);
     }
 
 pub rise_turn : (ends : List Mark) (i : ℕ) (start ledgers : List Spending) (log now next : List Mark) (k : Mark) (s state new : Spending) → i < length ends → k ≡ get_or ends i k → AreMarks start ends
@@ -237,8 +237,8 @@ marks_turn ends i start ledgers now next k s state h e marks is state_is alike s
     (all_joined (IsMark start) now (record { memory = k.memory; state = state } ∷ []) so (
       record {
         inside = own.inside;
-        ports = ap (λ (x : Spending). x.ports) state_is ∙ (sym (ap ports_of found) ∙ alike.ports k.memory);
-        banks = ap (λ (x : Spending). length x.spent) state_is ∙ (sym (ap banks_of found) ∙ alike.banks k.memory);
+        ports = ap (λ (x : Spending). x.ports) state_is ∙ (sym (ap spending_ports found) ∙ alike.ports k.memory);
+        banks = ap (λ (x : Spending). length x.spent) state_is ∙ (sym (ap spending_banks found) ∙ alike.banks k.memory);
       },
       tt,
     ))

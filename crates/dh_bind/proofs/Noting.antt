@@ -11,7 +11,7 @@ use Rattle.dh_plan.specs.declared.operations.PlanBlock.{PlanBlock}
 use Rattle.dh_plan.specs.declared.operations.Reach.{Reach}
 use Rattle.dh_plan.specs.SoundPlans.{use_in, place_charge}
 use Rattle.dh_bind.specs.Drafts.{all_operations, cell_of, flattened, AllUses}
-use Rattle.dh_bind.specs.Costs.{Costs, memory_at, raw_use, raw_charge, use_memory, last_memory, Noted, costs_in, Raised, FitsListed, FitsRows}
+use Rattle.dh_bind.specs.Costs.{Costs, memory_of_access, raw_use, raw_charge, use_memory, last_memory, Noted, costs_in, Raised, FitsListed, FitsRows}
 use Rattle.dh_bind.proofs.Cells.{away}
 use Rattle.dh_bind.proofs.Driven.{get_set_same, get_set_other, is_not}
 use Rattle.dh_bind.proofs.Flat.{got, uses_in_block}
@@ -100,7 +100,7 @@ raw_joined access bank (o ∷ xs) ys =
 
 pub noted_more : (wide : ℕ) (xs ys : List Operation) (a b c : Costs) → Noted wide xs a b → Noted wide ys b c → Noted wide (xs ++ ys) a c
 noted_more wide xs ys a b c x y = record {
-  memories = λ access h. y.memories access (let r = x.rows in omega (arith, r, h)) ∙ (ap (λ (m : Option ℕ). last_memory access ys m) (x.memories access h) ∙ sym (memory_joined access xs ys (memory_at a.memories access)));
+  memories = λ access h. y.memories access (let r = x.rows in omega (arith, r, h)) ∙ (ap (λ (m : Option ℕ). last_memory access ys m) (x.memories access h) ∙ sym (memory_joined access xs ys (memory_of_access a.memories access)));
   counts = λ access bank h below.
       y.counts access bank (let r = x.rows in omega (arith, r, h)) below
       ∙ (ap (λ (n : ℕ). max n (raw_charge access bank ys)) (x.counts access bank h below)
@@ -140,18 +140,18 @@ noted_block wide bs i p os a b c h e f x y =
 -- one operation
 pub noted_unused : (wide : ℕ) (o : Operation) (a : Costs) → None ≡ use_in o.form → Noted wide (o ∷ []) a a
 noted_unused wide o a e = record {
-  memories = λ access h. ap (λ (u : Option Reach). use_memory access u (memory_at a.memories access)) e;
+  memories = λ access h. ap (λ (u : Option Reach). use_memory access u (memory_of_access a.memories access)) e;
   counts = λ access bank h below. max_none (slice_index a.counts (cell_of wide access bank)) ∙ ap (λ (n : ℕ). max (slice_index a.counts (cell_of wide access bank)) n) (max_none 0 ∙ ap (λ (u : Option Reach). max (raw_use access bank u) 0) e);
   rows = refl;
   cells = refl;
 }
 
-pub memory_of_use : (r : Reach) (memories : List (Option ℕ)) (access : ℕ) → r.access < length memories → memory_at (slice_set memories r.access (Some r.memory)) access ≡ use_memory access (Some r) (memory_at memories access)
+pub memory_of_use : (r : Reach) (memories : List (Option ℕ)) (access : ℕ) → r.access < length memories → memory_of_access (slice_set memories r.access (Some r.memory)) access ≡ use_memory access (Some r) (memory_of_access memories access)
 memory_of_use r memories access inside = elim (cases_eq access r.access) [
-  | inl e ↦ ap (λ (k : ℕ). memory_at (slice_set memories r.access (Some r.memory)) k) e ∙ (ap flattened (get_set_same memories r.access (Some r.memory) inside)
-      ∙ sym (ap (λ (t : Bool). if t then Some r.memory else memory_at memories access) (eq-eqb r.access access (sym e))))
+  | inl e ↦ ap (λ (k : ℕ). memory_of_access (slice_set memories r.access (Some r.memory)) k) e ∙ (ap flattened (get_set_same memories r.access (Some r.memory) inside)
+      ∙ sym (ap (λ (t : Bool). if t then Some r.memory else memory_of_access memories access) (eq-eqb r.access access (sym e))))
   | inr differs ↦ ap flattened (get_set_other memories r.access access (Some r.memory) differs)
-      ∙ sym (ap (λ (t : Bool). if t then Some r.memory else memory_at memories access) (is_not r.access access (λ f. differs (sym f))))
+      ∙ sym (ap (λ (t : Bool). if t then Some r.memory else memory_of_access memories access) (is_not r.access access (λ f. differs (sym f))))
 ]
 
 own_one : (t : Bool) (n : ℕ) → t ≡ true → n ≡ max (if t then n else 0) 0
@@ -177,7 +177,7 @@ count_of_use wide r counts next so access bank below = elim (cases_eq access r.a
 pub noted_used : (wide : ℕ) (o : Operation) (r : Reach) (memories : List (Option ℕ)) (counts next : List ℕ) → Some r ≡ use_in o.form → r.access < length memories → Raised (r.access * wide) wide r.banks counts next
     → Noted wide (o ∷ []) (costs_in wide memories counts) (costs_in wide (slice_set memories r.access (Some r.memory)) next)
 noted_used wide o r memories counts next e inside so = record {
-  memories = λ access h. memory_of_use r memories access inside ∙ ap (λ (u : Option Reach). use_memory access u (memory_at memories access)) e;
+  memories = λ access h. memory_of_use r memories access inside ∙ ap (λ (u : Option Reach). use_memory access u (memory_of_access memories access)) e;
   counts = λ access bank h below. count_of_use wide r counts next so access bank below ∙ ap (λ (u : Option Reach). max (slice_index counts (cell_of wide access bank)) (max (raw_use access bank u) 0)) e;
   rows = length-set memories r.access (Some r.memory);
   cells = so.cells;

@@ -9,7 +9,7 @@ use Rattle.dh_plan.specs.declared.operations.Operation.{Operation}
 use Rattle.dh_plan.specs.declared.operations.Reach.{Reach}
 use Rattle.dh_plan.specs.declared.operations.PlanBlock.{PlanBlock}
 use Rattle.dh_plan.specs.SoundPlans.{use_in}
-use Rattle.dh_bind.specs.Drafts.{all_operations, first_at, pair_with, pairs_of, use_pairs, all_pairs, cell_of, flattened, FitsPair, FitsPairs, AllUses, Draft, IsDraft, PortsFit, use_rows, accesses_of, width_in}
+use Rattle.dh_bind.specs.Drafts.{all_operations, first_at, pair_with, pairs_of, use_pairs, all_pairs, cell_of, flattened, FitsPair, FitsPairs, AllUses, Draft, IsDraft, PortsFit, use_rows, draft_access_count, draft_width}
 use Rattle.dh_bind.proofs.Cells.{rows_apart}
 use Rattle.dh_bind.proofs.Flat.{rest_is, got, uses_in_block, rows_among}
 
@@ -69,20 +69,20 @@ pairs_turn wide firsts access row bs ls i so_far next all same h row_is long fit
       rest.1,
     )
 
-row_fits : (d : Draft) → IsDraft d → (n : ℕ) (o : Operation) (r : Reach) → slice_get (all_operations d.plan.blocks) n ≡ Some o → use_in o.form ≡ Some r → cell_of (width_in d) r.access (width_in d) ≤ length d.firsts
+row_fits : (d : Draft) → IsDraft d → (n : ℕ) (o : Operation) (r : Reach) → slice_get (all_operations d.plan.blocks) n ≡ Some o → use_in o.form ≡ Some r → cell_of (draft_width d) r.access (draft_width d) ≤ length d.firsts
 row_fits d is n o r e f =
     let k = rows_among (all_operations d.plan.blocks) n o e in
     let g : use_rows (use_in o.form) ≡ r.access + 1 = ap use_rows f in
-    let apart = rows_apart r.access (accesses_of d) (width_in d) (omega (arith, k, g)) in
+    let apart = rows_apart r.access (draft_access_count d) (draft_width d) (omega (arith, k, g)) in
     let long = is.long in
     omega (arith, apart, long)
 
 -- what a turn over the blocks of a draft needs
 pub ports_need : (d fields : Draft) → fields ≡ d → IsDraft fields → PortsFit d → (bs : List PlanBlock) → bs ≡ fields.plan.blocks → (i : ℕ) (p : PlanBlock) → i < length bs → p ≡ get_or bs i p
-    → (os : List Operation) → os ≡ p.operations → (wide : ℕ) → wide ≡ width_in fields → (firsts : List (Option ℕ)) → firsts ≡ fields.firsts → AllUses (FitsPairs wide firsts) os
+    → (os : List Operation) → os ≡ p.operations → (wide : ℕ) → wide ≡ draft_width fields → (firsts : List (Option ℕ)) → firsts ≡ fields.firsts → AllUses (FitsPairs wide firsts) os
 ports_need d fields same is fit bs e i p h f os g wide w firsts k =
     let there : PortsFit fields = subst (λ (x : Draft). PortsFit x) (sym same) fit in
-    let whole : AllUses (FitsPairs (width_in fields) fields.firsts) (all_operations fields.plan.blocks) = (λ n o r x y. record { row = row_fits fields is n o r x y; pairs = there n o r x y }) in
-    let blocks : AllUses (FitsPairs (width_in fields) fields.firsts) (all_operations bs) = subst (λ (x : List PlanBlock). AllUses (FitsPairs (width_in fields) fields.firsts) (all_operations x)) (sym e) whole in
-    let own : AllUses (FitsPairs (width_in fields) fields.firsts) p.operations = uses_in_block (FitsPairs (width_in fields) fields.firsts) bs i p (got bs i p h f) blocks in
-    subst (λ (n : ℕ). AllUses (FitsPairs n firsts) os) (sym w) (subst (λ (x : List (Option ℕ)). AllUses (FitsPairs (width_in fields) x) os) (sym k) (subst (λ (x : List Operation). AllUses (FitsPairs (width_in fields) fields.firsts) x) (sym g) own))
+    let whole : AllUses (FitsPairs (draft_width fields) fields.firsts) (all_operations fields.plan.blocks) = (λ n o r x y. record { row = row_fits fields is n o r x y; pairs = there n o r x y }) in
+    let blocks : AllUses (FitsPairs (draft_width fields) fields.firsts) (all_operations bs) = subst (λ (x : List PlanBlock). AllUses (FitsPairs (draft_width fields) fields.firsts) (all_operations x)) (sym e) whole in
+    let own : AllUses (FitsPairs (draft_width fields) fields.firsts) p.operations = uses_in_block (FitsPairs (draft_width fields) fields.firsts) bs i p (got bs i p h f) blocks in
+    subst (λ (n : ℕ). AllUses (FitsPairs n firsts) os) (sym w) (subst (λ (x : List (Option ℕ)). AllUses (FitsPairs (draft_width fields) x) os) (sym k) (subst (λ (x : List Operation). AllUses (FitsPairs (draft_width fields) fields.firsts) x) (sym g) own))

@@ -19,10 +19,10 @@ use Rattle.dh_plan.specs.SeenPlans.{plan_seen, meets_seen}
 use Rattle.dh_plan.specs.SoundPlans.{HasUse, IsListed, plan_charge}
 use Rattle.dh_bind.specs.Begins.{begin}
 use Rattle.dh_bind.specs.Costs.{Costs, AreCosts, cost, last_memory}
-use Rattle.dh_bind.specs.Drafts.{Draft, all_operations, first_at, uses_of, all_pairs, AllUses, PortsFit, FitsPair, rows_of, accesses_of, width_of, width_in}
+use Rattle.dh_bind.specs.Drafts.{Draft, all_operations, first_at, draft_uses, all_pairs, AllUses, PortsFit, FitsPair, operations_rows, draft_access_count, operations_width, draft_width}
 use Rattle.dh_bind.specs.Fresh.{fresh}
-use Rattle.dh_bind.specs.Ledgers.{spent_at, ports_in, banks_in, AreMarks}
-use Rattle.dh_bind.specs.Standings.{Standing, Walked, Overdrawn, Walks, IsStanding, IsBegun, ArePlaced}
+use Rattle.dh_bind.specs.Ledgers.{spent_at, ports_in, ledger_banks, AreMarks}
+use Rattle.dh_bind.specs.Standings.{Standing, MeetsWalked, Overdrawn, WalksMeets, IsStanding, IsBegun, PortsArePlaced}
 use Rattle.dh_bind.specs.declared.ledgers.Mark.{Mark}
 use Rattle.dh_bind.specs.declared.walker.Stop.{Stop}
 use Rattle.dh_bind.specs.declared.walker.Stop.TheVariants as stop
@@ -60,16 +60,16 @@ module _ (plan : Plan) (may : MayBind (plan_seen plan)) (start end : Standing) (
       let fits = load_fits (plan_seen plan) may.sound.formed may.ports over.memory over.bank in
       omega (arith, beyond, ports, none, e, fits)
 
-  module _ (walked : Walked start.costs (meets_seen plan.meets) start end) where
-    wide_is : start.costs.wide ≡ width_of (all_operations plan.blocks)
+  module _ (walked : MeetsWalked start.costs (meets_seen plan.meets) start end) where
+    wide_is : start.costs.wide ≡ operations_width (all_operations plan.blocks)
     wide_is = begun.costs.wide
 
     -- the first port of an access
     pub first_of : (b i : ℕ) (r : Reach) (bank place : ℕ) → HasUse (plan_seen plan) b i r → IsListed bank place r.banks
-        → first_at (width_of (all_operations plan.blocks)) end.draft.firsts r.access bank ≡ Some (begin (plan_charge (plan_seen plan) r.memory bank) r.access (meets_seen plan.meets))
+        → first_at (operations_width (all_operations plan.blocks)) end.draft.firsts r.access bank ≡ Some (begin (plan_charge (plan_seen plan) r.memory bank) r.access (meets_seen plan.meets))
     first_of b i r bank place h listed =
         let few : bank < start.costs.wide =
-        subst (λ (n : ℕ). bank < n) (sym wide_is) (listed_fits (width_of (all_operations plan.blocks)) bank place r.banks (banks_fit (plan_seen plan) b i r h) listed) in
+        subst (λ (n : ℕ). bank < n) (sym wide_is) (listed_fits (operations_width (all_operations plan.blocks)) bank place r.banks (banks_fit (plan_seen plan) b i r h) listed) in
         let charged : 0 < cost start.costs r.memory bank r.access =
         (let e = begun.costs.charges r.memory bank r.access few in let k = place_charged (plan_seen plan) b i r bank place h listed in omega (arith, e, k)) in
         let none = begun.spent r.memory bank in
@@ -85,9 +85,9 @@ module _ (plan : Plan) (may : MayBind (plan_seen plan)) (start end : Standing) (
     some_is : (a b : ℕ) → Some a ≡ Some b → a ≡ b
     some_is a b e = cc
 
-    pair_fits : (b i : ℕ) (r : Reach) (bank place : ℕ) → HasUse (plan_seen plan) b i r → IsListed bank place r.banks → FitsPair (width_of (all_operations plan.blocks)) end.draft.firsts r.access (bank, place)
+    pair_fits : (b i : ℕ) (r : Reach) (bank place : ℕ) → HasUse (plan_seen plan) b i r → IsListed bank place r.banks → FitsPair (operations_width (all_operations plan.blocks)) end.draft.firsts r.access (bank, place)
     pair_fits b i r bank place h listed = record {
-      bank = listed_fits (width_of (all_operations plan.blocks)) bank place r.banks (banks_fit (plan_seen plan) b i r h) listed;
+      bank = listed_fits (operations_width (all_operations plan.blocks)) bank place r.banks (banks_fit (plan_seen plan) b i r h) listed;
       port = λ first e.
           (let f = some_is _ _ (sym (first_of b i r bank place h listed) ∙ e) in
           let g = ends_fit (plan_seen plan) may.sound.formed may.ports (memory_in (plan_seen plan)) (memory_in_is (plan_seen plan) may) b i r bank h in
@@ -98,10 +98,10 @@ module _ (plan : Plan) (may : MayBind (plan_seen plan)) (start end : Standing) (
           omega (arith, f, g, j, k, l));
     }
 
-    fit_here : (p : Plan) → p ≡ plan → AllUses (λ r. AllByRecursion (FitsPair (width_of (all_operations p.blocks)) end.draft.firsts r.access) r.banks) (all_operations p.blocks)
-    fit_here p e = subst (λ (q : Plan). AllUses (λ r. AllByRecursion (FitsPair (width_of (all_operations q.blocks)) end.draft.firsts r.access) r.banks) (all_operations q.blocks)) (sym e)
-        (uses_of_blocks (plan_seen plan) (λ r. AllByRecursion (FitsPair (width_of (all_operations plan.blocks)) end.draft.firsts r.access) r.banks)
-        (λ b i r h. all_listed (FitsPair (width_of (all_operations plan.blocks)) end.draft.firsts r.access) r.banks (λ bank place listed. pair_fits b i r bank place h listed)))
+    fit_here : (p : Plan) → p ≡ plan → AllUses (λ r. AllByRecursion (FitsPair (operations_width (all_operations p.blocks)) end.draft.firsts r.access) r.banks) (all_operations p.blocks)
+    fit_here p e = subst (λ (q : Plan). AllUses (λ r. AllByRecursion (FitsPair (operations_width (all_operations q.blocks)) end.draft.firsts r.access) r.banks) (all_operations q.blocks)) (sym e)
+        (uses_of_blocks (plan_seen plan) (λ r. AllByRecursion (FitsPair (operations_width (all_operations plan.blocks)) end.draft.firsts r.access) r.banks)
+        (λ b i r h. all_listed (FitsPair (operations_width (all_operations plan.blocks)) end.draft.firsts r.access) r.banks (λ bank place listed. pair_fits b i r bank place h listed)))
 
     pub ports_fit : PortsFit end.draft
     ports_fit = fit_here end.draft.plan plan_is
@@ -113,15 +113,15 @@ module _ (plan : Plan) (may : MayBind (plan_seen plan)) (start end : Standing) (
     abbrev drafted : Draft
     drafted = record { plan = plan; firsts = end.draft.firsts }
 
-    placed_here : (p : Plan) → p ≡ plan → ArePlaced (plan_seen plan) (all_pairs (width_of (all_operations p.blocks)) end.draft.firsts (all_operations p.blocks))
-    placed_here p e = subst (λ (q : Plan). ArePlaced (plan_seen plan) (all_pairs (width_of (all_operations q.blocks)) end.draft.firsts (all_operations q.blocks))) (sym e) (record {
-      long = long_pairs (width_of (all_operations plan.blocks)) end.draft.firsts (all_operations plan.blocks) ∙ long_all plan.blocks;
+    placed_here : (p : Plan) → p ≡ plan → PortsArePlaced (plan_seen plan) (all_pairs (operations_width (all_operations p.blocks)) end.draft.firsts (all_operations p.blocks))
+    placed_here p e = subst (λ (q : Plan). PortsArePlaced (plan_seen plan) (all_pairs (operations_width (all_operations q.blocks)) end.draft.firsts (all_operations q.blocks))) (sym e) (record {
+      long = long_pairs (operations_width (all_operations plan.blocks)) end.draft.firsts (all_operations plan.blocks) ∙ long_all plan.blocks;
       placed = λ b i r bank place h listed.
           port_at drafted may.sound.formed b i bank place (begin (plan_charge (plan_seen plan) r.memory bank) r.access (meets_seen plan.meets)) r h listed (first_of b i r bank place h listed);
     })
 
-    pub are_placed : (ports : List (List (ℕ × ℕ))) → ports ≡ (uses_of end.draft).ports → ArePlaced (plan_seen plan) ports
-    are_placed ports e = subst (λ (x : List (List (ℕ × ℕ))). ArePlaced (plan_seen plan) x) (sym e) (placed_here end.draft.plan plan_is)
+    pub are_placed : (ports : List (List (ℕ × ℕ))) → ports ≡ (draft_uses end.draft).ports → PortsArePlaced (plan_seen plan) ports
+    are_placed ports e = subst (λ (x : List (List (ℕ × ℕ))). PortsArePlaced (plan_seen plan) x) (sym e) (placed_here end.draft.plan plan_is)
 
 -- fresh ledgers
 pub fresh_spent : (table : List MemEntry) (memory bank : ℕ) → spent_at (map fresh table) memory bank ≡ 0
@@ -139,13 +139,13 @@ fresh_ports [] memory = refl
 fresh_ports (e ∷ table) zero = refl
 fresh_ports (e ∷ table) (suc memory) = fresh_ports table memory
 
-pub fresh_banks : (table : List MemEntry) (memory : ℕ) → memory < length table → banks_in (map fresh table) memory ≡ 64
+pub fresh_banks : (table : List MemEntry) (memory : ℕ) → memory < length table → ledger_banks (map fresh table) memory ≡ 64
 fresh_banks [] memory h = absurd (let k = h in omega (arith, k))
 fresh_banks (e ∷ table) zero h = length-replicate {A = ℕ} 64 0
 fresh_banks (e ∷ table) (suc memory) h = fresh_banks table memory (let k = h in omega (arith, k))
 
 -- ports that are placed so are granted, and the ports of operations
-module _ (plan : PlainPlan) (may : MayBind plan) (u : Uses) (placed : ArePlaced plan u.ports) where
+module _ (plan : PlainPlan) (may : MayBind plan) (u : Uses) (placed : PortsArePlaced plan u.ports) where
   used_at : (b i : ℕ) (r : Reach) (bank place : ℕ) → HasUse plan b i r → IsListed bank place r.banks
       → port_used plan u b i bank ≡ Some (first_port plan may.sound.formed may.ports (memory_in plan) (memory_in_is plan may) r.access bank + place)
   used_at b i r bank place h listed =
@@ -159,22 +159,22 @@ module _ (plan : PlainPlan) (may : MayBind plan) (u : Uses) (placed : ArePlaced 
   all_ports = are_ports plan may.sound.formed may.ports (memory_in plan) (memory_in_is plan may) u used_at
 
 -- a walk of which nothing is done yet
-pub new_stands : (plan : Plan) → width_of (all_operations plan.blocks) ≤ 64 → (c : Costs) → AreCosts (plan_seen plan) c → (d : Draft) → d.plan ≡ plan → d.firsts ≡ replicate (accesses_of d * width_in d) None → (ledgers : List Spending) (table : List MemEntry) → ledgers ≡ map fresh table → table ≡ plan.table
+pub new_stands : (plan : Plan) → operations_width (all_operations plan.blocks) ≤ 64 → (c : Costs) → AreCosts (plan_seen plan) c → (d : Draft) → d.plan ≡ plan → d.firsts ≡ replicate (draft_access_count d * draft_width d) None → (ledgers : List Spending) (table : List MemEntry) → ledgers ≡ map fresh table → table ≡ plan.table
     → (log : List Mark) → log ≡ [] → IsStanding (record { costs = c; ledgers = ledgers; log = log; draft = d })
 new_stands plan few c costs d of none ledgers table e f log g =
     let all_ledgers : ledgers ≡ map fresh plan.table = e ∙ ap (λ (t : List MemEntry). map fresh t) f in
     let long : length ledgers ≡ length plan.table = ap (λ (l : List Spending). length l) all_ledgers ∙ length-map plan.table fresh in
-    let rows : length c.memories ≡ accesses_of d = costs.rows ∙ ap (λ (p : Plan). rows_of (all_operations p.blocks)) (sym of) in
-    let wide : c.wide ≡ width_in d = costs.wide ∙ ap (λ (p : Plan). width_of (all_operations p.blocks)) (sym of) in
+    let rows : length c.memories ≡ draft_access_count d = costs.rows ∙ ap (λ (p : Plan). operations_rows (all_operations p.blocks)) (sym of) in
+    let wide : c.wide ≡ draft_width d = costs.wide ∙ ap (λ (p : Plan). operations_width (all_operations p.blocks)) (sym of) in
     record {
       wide = wide;
       few = subst (λ (n : ℕ). n ≤ 64) (sym costs.wide) few;
       cells = costs.cells;
       rows = rows;
-      firsts = ap (λ (l : List (Option ℕ)). length l) none ∙ (length-replicate {A = Option ℕ} (accesses_of d * width_in d) None
-          ∙ (ap (λ (n : ℕ). n * width_in d) (sym rows) ∙ ap (λ (n : ℕ). length c.memories * n) (sym wide)));
+      firsts = ap (λ (l : List (Option ℕ)). length l) none ∙ (length-replicate {A = Option ℕ} (draft_access_count d * draft_width d) None
+          ∙ (ap (λ (n : ℕ). n * draft_width d) (sym rows) ∙ ap (λ (n : ℕ). length c.memories * n) (sym wide)));
       inside = λ access memory h. (let k = costs.inside access memory h in omega (arith, k, long));
-      banks = λ memory h. ap (λ (l : List Spending). banks_in l memory) all_ledgers ∙ fresh_banks plan.table memory (let k = h in omega (arith, k, long));
+      banks = λ memory h. ap (λ (l : List Spending). ledger_banks l memory) all_ledgers ∙ fresh_banks plan.table memory (let k = h in omega (arith, k, long));
       marks = subst (λ (l : List Mark). AreMarks ledgers l) (sym g) tt;
     }
 
@@ -190,5 +190,5 @@ new_begun plan c costs d of ledgers table e f log =
     }
 
 -- what a walk answers that finds a bank full
-pub no_stop : (plan : Plan) → MayBind (plan_seen plan) → (start end : Standing) → IsBegun plan start → (e : Stop) → e ≡ stop.Full → Walks (meets_seen plan.meets) start end (Err e) → ⊥
-no_stop plan may start end begun e is walks = never_full plan may start end begun (subst (λ (x : Stop). Walks (meets_seen plan.meets) start end (Err x)) is walks)
+pub no_stop : (plan : Plan) → MayBind (plan_seen plan) → (start end : Standing) → IsBegun plan start → (e : Stop) → e ≡ stop.Full → WalksMeets (meets_seen plan.meets) start end (Err e) → ⊥
+no_stop plan may start end begun e is walks = never_full plan may start end begun (subst (λ (x : Stop). WalksMeets (meets_seen plan.meets) start end (Err x)) is walks)

@@ -8,19 +8,19 @@ use Rattle.std.proofs.lemmas.List.{set-get_or}
 use Rattle.std.proofs.lemmas.Option.{slice_get-get_or}
 use Rattle.dh_tree.specs.Meets.{access}
 use Rattle.dh_ledger.specs.Spending.{Spending}
-use Rattle.dh_bind.specs.Costs.{Costs, cost, cost_on, memory_at}
+use Rattle.dh_bind.specs.Costs.{Costs, cost, cost_on, memory_of_access}
 use Rattle.dh_bind.specs.Drafts.{first_at, cell_of}
 use Rattle.dh_bind.specs.Ledgers.{spent_at, ports_in, state_or}
-use Rattle.dh_bind.specs.Standings.{Standing, Keeps, mark_of, log_marked, count_at, BankCharged, RowCharged, FullAt, Walked, Overdrawn, ChargesRow, Walks}
+use Rattle.dh_bind.specs.Standings.{Standing, KeepsCostsAndPlan, mark_of, log_marked, count_at, BankCharged, RowCharged, FullAt, MeetsWalked, Overdrawn, ChargesRow, WalksMeets}
 use Rattle.dh_bind.specs.declared.walker.Stop.{Stop}
 use Rattle.dh_bind.specs.declared.walker.Stop.TheVariants as stop
 use Rattle.dh_bind.proofs.Driven.{is_not}
 use Rattle.dh_bind.proofs.LedgerFacts.{alike_self, alike_then}
 
-pub keeps_self : (s : Standing) → Keeps s s
+pub keeps_self : (s : Standing) → KeepsCostsAndPlan s s
 keeps_self s = record { costs = refl; plan = refl; alike = alike_self s.ledgers }
 
-pub keeps_then : (a b c : Standing) → Keeps a b → Keeps b c → Keeps a c
+pub keeps_then : (a b c : Standing) → KeepsCostsAndPlan a b → KeepsCostsAndPlan b c → KeepsCostsAndPlan a c
 keeps_then a b c x y = record { costs = y.costs ∙ x.costs; plan = y.plan ∙ x.plan; alike = alike_then a.ledgers b.ledgers c.ledgers x.alike y.alike }
 
 -- the cost on a bank of the access's memory, and of others
@@ -32,15 +32,15 @@ not_chosen : (t : Bool) (n : ℕ) → t ≡ false → (if t then n else 0) ≡ 0
 not_chosen true n e = absurd (let f : true ≡ false = e in cc)
 not_chosen false n e = refl
 
-pub cost_own : (s : Standing) (a memory bank : ℕ) → memory_at s.costs.memories a ≡ Some memory → cost s.costs memory bank a ≡ count_at s a bank
+pub cost_own : (s : Standing) (a memory bank : ℕ) → memory_of_access s.costs.memories a ≡ Some memory → cost s.costs memory bank a ≡ count_at s a bank
 cost_own s a memory bank e =
     ap (λ (m : Option ℕ). cost_on m memory (count_at s a bank)) e ∙ chosen (memory == memory) (count_at s a bank) (eq-eqb memory memory refl)
 
-cost_other : (s : Standing) (a memory m bank : ℕ) → memory_at s.costs.memories a ≡ Some memory → (m ≡ memory → ⊥) → cost s.costs m bank a ≡ 0
+cost_other : (s : Standing) (a memory m bank : ℕ) → memory_of_access s.costs.memories a ≡ Some memory → (m ≡ memory → ⊥) → cost s.costs m bank a ≡ 0
 cost_other s a memory m bank e f =
     ap (λ (x : Option ℕ). cost_on x m (count_at s a bank)) e ∙ not_chosen (memory == m) (count_at s a bank) (is_not memory m (λ g. f (sym g)))
 
-cost_same : (s : Standing) (a memory m bank : ℕ) → memory_at s.costs.memories a ≡ Some memory → m ≡ memory → cost s.costs m bank a ≡ count_at s a bank
+cost_same : (s : Standing) (a memory m bank : ℕ) → memory_of_access s.costs.memories a ≡ Some memory → m ≡ memory → cost s.costs m bank a ≡ count_at s a bank
 cost_same s a memory m bank e f = ap (λ (k : ℕ). cost s.costs k bank a) f ∙ cost_own s a memory bank e
 
 -- what is spent on a bank in one turn
@@ -79,7 +79,7 @@ below_same b n k differs = elim (cases_lt b n) [
     above : (m l : ℕ) → l ≤ m → (m ≡ l → ⊥) → l + 1 ≤ m
     above m l more none = grind (arith, more, none)
 
-module _ (a memory n : ℕ) (start now next : Standing) (of_memory : memory_at start.costs.memories a ≡ Some memory) (few : n < start.costs.wide) (so : RowCharged a memory n start now) (charged : BankCharged now.costs.wide a memory n now next) where
+module _ (a memory n : ℕ) (start now next : Standing) (of_memory : memory_of_access start.costs.memories a ≡ Some memory) (few : n < start.costs.wide) (so : RowCharged a memory n start now) (charged : BankCharged now.costs.wide a memory n now next) where
   turn : BankCharged start.costs.wide a memory n now next
   turn = subst (λ (c : Costs). BankCharged c.wide a memory n now next) so.keeps.costs charged
 
@@ -126,7 +126,7 @@ module _ (a memory n : ℕ) (start now next : Standing) (of_memory : memory_at s
     own = own_turn;
   }
 
-pub row_full : (a memory n : ℕ) (start now : Standing) → memory_at start.costs.memories a ≡ Some memory → n < start.costs.wide → RowCharged a memory n start now → ports_in now.ledgers memory < spent_at now.ledgers memory n + count_at now a n → FullAt a memory start
+pub row_full : (a memory n : ℕ) (start now : Standing) → memory_of_access start.costs.memories a ≡ Some memory → n < start.costs.wide → RowCharged a memory n start now → ports_in now.ledgers memory < spent_at now.ledgers memory n + count_at now a n → FullAt a memory start
 row_full a memory n start now of_memory few so beyond = record {
   bank = n;
   few = few;
@@ -148,7 +148,7 @@ row_none a memory s = record {
 }
 
 -- an access that no operation uses
-pub unused_walked : (a : ℕ) (s : Standing) → memory_at s.costs.memories a ≡ None → Walked s.costs (access a) s s
+pub unused_walked : (a : ℕ) (s : Standing) → memory_of_access s.costs.memories a ≡ None → MeetsWalked s.costs (access a) s s
 unused_walked a s e = record {
   keeps = keeps_self s;
   spent = λ m b few. (let f : cost s.costs m b a ≡ 0 = ap (λ (x : Option ℕ). cost_on x m (count_at s a b)) e in omega (arith, f));
@@ -157,7 +157,7 @@ unused_walked a s e = record {
   back = refl;
   granted = record {
     others = λ x b few none. refl;
-    own = λ d x b m few i f some. absurd (let g : memory_at s.costs.memories a ≡ Some m = subst (λ (k : ℕ). memory_at s.costs.memories k ≡ Some m) i f in let h : None ≡ Some m = sym e ∙ g in cc);
+    own = λ d x b m few i f some. absurd (let g : memory_of_access s.costs.memories a ≡ Some m = subst (λ (k : ℕ). memory_of_access s.costs.memories k ≡ Some m) i f in let h : None ≡ Some m = sym e ∙ g in cc);
   };
 }
   where
@@ -166,7 +166,7 @@ unused_walked a s e = record {
     nothing_behind (x ∷ l) = ap (λ (m : List _). x ∷ m) (nothing_behind l)
 
 -- an access whose row is charged
-pub row_walked : (a memory : ℕ) (start next : Standing) → memory_at start.costs.memories a ≡ Some memory → memory < length start.ledgers → RowCharged a memory start.costs.wide (log_marked start memory) next → Walked start.costs (access a) start next
+pub row_walked : (a memory : ℕ) (start next : Standing) → memory_of_access start.costs.memories a ≡ Some memory → memory < length start.ledgers → RowCharged a memory start.costs.wide (log_marked start memory) next → MeetsWalked start.costs (access a) start next
 row_walked a memory start next of_memory inside so = record {
   keeps = record { costs = so.keeps.costs; plan = so.keeps.plan; alike = so.keeps.alike };
   spent = λ m b few. so.spent m b few ∙ ap (λ (k : ℕ). spent_at start.ledgers m b + k) (chosen (nat_lt b start.costs.wide) (cost start.costs m b a) (is_below b start.costs.wide few));
@@ -178,7 +178,7 @@ row_walked a memory start next of_memory inside so = record {
   granted = record {
     others = λ x b few none. so.others x b few none;
     own = λ d x b m few i f some.
-        (let g : memory_at start.costs.memories a ≡ Some m = subst (λ (k : ℕ). memory_at start.costs.memories k ≡ Some m) i f in
+        (let g : memory_of_access start.costs.memories a ≡ Some m = subst (λ (k : ℕ). memory_of_access start.costs.memories k ≡ Some m) i f in
         let e : memory ≡ m = (let h : Some memory ≡ Some m = sym of_memory ∙ g in cc) in
         let charged : 0 < count_at start a b = subst (λ (k : ℕ). 0 < k) (ap (λ (k : ℕ). cost start.costs m b k) i ∙ cost_same start a memory m b of_memory (sym e)) some in
         ap (λ (k : ℕ). first_at start.costs.wide next.draft.firsts k b) i ∙ (so.own b few charged
@@ -186,7 +186,7 @@ row_walked a memory start next of_memory inside so = record {
   };
 }
 
-pub row_overdrawn : (a memory : ℕ) (start : Standing) → memory_at start.costs.memories a ≡ Some memory → FullAt a memory (log_marked start memory) → Overdrawn start.costs (access a) start
+pub row_overdrawn : (a memory : ℕ) (start : Standing) → memory_of_access start.costs.memories a ≡ Some memory → FullAt a memory (log_marked start memory) → Overdrawn start.costs (access a) start
 row_overdrawn a memory start of_memory full = record {
   memory = memory;
   bank = full.bank;
@@ -195,8 +195,8 @@ row_overdrawn a memory start of_memory full = record {
 }
 
 -- what charging an access answers
-pub charge_ends : (a memory : ℕ) (start mid next : Standing) (r : Result (Unit {0}) Stop) → memory_at start.costs.memories a ≡ Some memory → memory < length start.ledgers → mid ≡ log_marked start memory
-    → ChargesRow a memory mid next r → Walks (access a) start next r
+pub charge_ends : (a memory : ℕ) (start mid next : Standing) (r : Result (Unit {0}) Stop) → memory_of_access start.costs.memories a ≡ Some memory → memory < length start.ledgers → mid ≡ log_marked start memory
+    → ChargesRow a memory mid next r → WalksMeets (access a) start next r
 charge_ends a memory start mid next (Ok done) of_memory inside e charges =
     row_walked a memory start next of_memory inside (subst (λ (s : Standing). RowCharged a memory s.costs.wide s next) e charges)
 charge_ends a memory start mid next (Err stop.NoMemory) of_memory inside e charges = tt

@@ -8,9 +8,9 @@ use Rattle.dh_ledger.specs.Granted.{Granted}
 use Rattle.dh_ledger.specs.Spending.{Spending}
 use Rattle.dh_plan.specs.declared.plans.Plan.{Plan}
 use Rattle.dh_bind.specs.declared.ledgers.Mark.{Mark}
-use Rattle.dh_bind.specs.Costs.{memory_at}
-use Rattle.dh_bind.specs.Drafts.{Draft, flattened, first_at, put_first, cell_of, granted_at, rows_of, width_of, all_operations}
-use Rattle.dh_bind.specs.Ledgers.{Alike, SpentMore, IsMark, AreMarks, spent_at, ports_in, state_or, ports_of, banks_of, undone, ends_now}
+use Rattle.dh_bind.specs.Costs.{memory_of_access}
+use Rattle.dh_bind.specs.Drafts.{Draft, flattened, first_at, put_first, cell_of, granted_at, operations_rows, operations_width, all_operations}
+use Rattle.dh_bind.specs.Ledgers.{Alike, SpentMore, IsMark, AreMarks, spent_at, ports_in, state_or, spending_ports, spending_banks, undone_ledgers, ends_now}
 use Rattle.dh_bind.specs.Standings.{Standing, IsStanding, mark_of, log_marked, count_at, BankCharged, TakenBack}
 use Rattle.dh_bind.proofs.Cells.{cell_inside}
 use Rattle.dh_bind.proofs.Driven.{first_set, first_kept, put_long}
@@ -18,11 +18,11 @@ use Rattle.dh_bind.proofs.Flat.{got}
 use Rattle.dh_bind.proofs.LedgerFacts.{marks_alike, all_joined, spent_nothing, alike_self}
 
 -- a memory that is read
-pub read_memory : (memories : List (Option ℕ)) (a : ℕ) (x : Option ℕ) → a < length memories → x ≡ get_or memories a x → memory_at memories a ≡ x
+pub read_memory : (memories : List (Option ℕ)) (a : ℕ) (x : Option ℕ) → a < length memories → x ≡ get_or memories a x → memory_of_access memories a ≡ x
 read_memory memories a x h e = ap flattened (got memories a x h e)
 
-pub memory_read : (ms memories : List (Option ℕ)) → ms ≡ memories → (a : ℕ) → a < length ms → memory_at memories a ≡ get_or ms a None
-memory_read ms memories e a h = ap (λ (l : List (Option ℕ)). memory_at l a) (sym e) ∙ ap flattened (slice_get-get_or ms a None h)
+pub memory_read : (ms memories : List (Option ℕ)) → ms ≡ memories → (a : ℕ) → a < length ms → memory_of_access memories a ≡ get_or ms a None
+memory_read ms memories e a h = ap (λ (l : List (Option ℕ)). memory_of_access l a) (sym e) ∙ ap flattened (slice_get-get_or ms a None h)
 
 pub count_read : (fields s : Standing) → fields ≡ s → IsStanding fields → (access bank : ℕ) → access < length s.costs.memories → bank < s.costs.wide → (p : ℕ) → p ≡ access * fields.costs.wide → (x : ℕ) → x ≡ get_or fields.costs.counts (p + bank) x → x ≡ count_at fields access bank
 count_read fields s same is access bank row few p q x e =
@@ -32,10 +32,10 @@ count_read fields s same is access bank row few p q x e =
     subst (λ (n : ℕ). cell_of fields.costs.wide access bank < n) (sym is.cells) (cell_inside (length fields.costs.memories) fields.costs.wide access bank r b) in
     e ∙ (ap (λ (n : ℕ). get_or fields.costs.counts (n + bank) x) q ∙ get_or_default fields.costs.counts (cell_of fields.costs.wide access bank) x 0 inside)
 
-pub past_memory : (memories : List (Option ℕ)) (a : ℕ) → length memories ≤ a → memory_at memories a ≡ None
+pub past_memory : (memories : List (Option ℕ)) (a : ℕ) → length memories ≤ a → memory_of_access memories a ≡ None
 past_memory memories a h = ap flattened (slice_get_past memories a h)
 
-pub memory_inside : (fields s : Standing) → fields ≡ s → IsStanding fields → (a memory : ℕ) → memory_at fields.costs.memories a ≡ Some memory → memory < length s.ledgers
+pub memory_inside : (fields s : Standing) → fields ≡ s → IsStanding fields → (a memory : ℕ) → memory_of_access fields.costs.memories a ≡ Some memory → memory < length s.ledgers
 memory_inside fields s same is a memory e = subst (λ (x : Standing). memory < length x.ledgers) same (is.inside a memory e)
 
 -- a mark of a ledger as it stands
@@ -48,11 +48,11 @@ mark_is ledgers memory state h e = ap (λ (x : Option Spending). marked memory (
 pub mark_stands : (ledgers : List Spending) (memory : ℕ) → memory < length ledgers → IsMark ledgers (mark_of ledgers memory)
 mark_stands ledgers memory h = record { inside = h; ports = of_state (slice_get ledgers memory); banks = of_banks (slice_get ledgers memory) }
   where
-    of_state : (x : Option Spending) → (state_or x (record { ports = 0; spent = [] })).ports ≡ ports_of x
+    of_state : (x : Option Spending) → (state_or x (record { ports = 0; spent = [] })).ports ≡ spending_ports x
     of_state None = refl
     of_state (Some s) = refl
 
-    of_banks : (x : Option Spending) → length (state_or x (record { ports = 0; spent = [] })).spent ≡ banks_of x
+    of_banks : (x : Option Spending) → length (state_or x (record { ports = 0; spent = [] })).spent ≡ spending_banks x
     of_banks None = refl
     of_banks (Some s) = refl
 
@@ -86,10 +86,10 @@ logged_stands fields s same is memory state log h e f =
 pub stands_then : (fields : Standing) → IsStanding fields → (ledgers : List Spending) (log : List Mark) (draft : Draft) → Alike fields.ledgers ledgers → AreMarks fields.ledgers log → draft.plan ≡ fields.draft.plan → length draft.firsts ≡ length fields.draft.firsts
     → IsStanding (record { costs = fields.costs; ledgers = ledgers; log = log; draft = draft })
 stands_then fields is ledgers log draft alike marks plan long = record {
-  wide = is.wide ∙ ap (λ (p : Plan). width_of (all_operations p.blocks)) (sym plan);
+  wide = is.wide ∙ ap (λ (p : Plan). operations_width (all_operations p.blocks)) (sym plan);
   few = is.few;
   cells = is.cells;
-  rows = is.rows ∙ ap (λ (p : Plan). rows_of (all_operations p.blocks)) (sym plan);
+  rows = is.rows ∙ ap (λ (p : Plan). operations_rows (all_operations p.blocks)) (sym plan);
   firsts = long ∙ is.firsts;
   inside = λ access memory e. (let l = alike.long in let h = is.inside access memory e in omega (arith, l, h));
   banks = λ memory h. alike.banks memory ∙ is.banks memory (let l = alike.long in omega (arith, l, h));
@@ -164,7 +164,7 @@ pub back_stands : (fields : Standing) → IsStanding fields → (n : ℕ) (ledge
 back_stands fields is n ledgers log alike e =
     stands_then fields is ledgers log fields.draft alike (subst (λ (x : List Mark). AreMarks fields.ledgers x) (sym e) (all_take (IsMark fields.ledgers) n fields.log is.marks)) refl refl
 
-pub back_taken : (fields s : Standing) → fields ≡ s → IsStanding fields → (n : ℕ) (ledgers : List Spending) (log ends next : List Mark) → ledgers ≡ undone (drop n fields.log) fields.ledgers → log ≡ take n fields.log → next ≡ ends ++ ends_now fields.ledgers (drop n fields.log)
+pub back_taken : (fields s : Standing) → fields ≡ s → IsStanding fields → (n : ℕ) (ledgers : List Spending) (log ends next : List Mark) → ledgers ≡ undone_ledgers (drop n fields.log) fields.ledgers → log ≡ take n fields.log → next ≡ ends ++ ends_now fields.ledgers (drop n fields.log)
     → TakenBack n s (record { costs = fields.costs; ledgers = ledgers; log = log; draft = fields.draft }) ends next
 back_taken fields s same is n ledgers log ends next e f g =
     subst (λ (x : Standing). TakenBack n x (record { costs = fields.costs; ledgers = ledgers; log = log; draft = fields.draft }) ends next) same

@@ -10,8 +10,8 @@ use Rattle.dh_ledger.specs.Spending.{Spending, spent_on}
 use Rattle.dh_bind.specs.declared.ledgers.Mark.{Mark}
 use Rattle.dh_bind.specs.Costs.{Costs, cost}
 use Rattle.dh_bind.specs.Drafts.{Draft}
-use Rattle.dh_bind.specs.Ledgers.{Alike, IsMark, AreMarks, Rises, spent_at, ports_in, undone, ends_now, top, state_or, spent_in, ports_of, banks_of, banks_in}
-use Rattle.dh_bind.specs.Standings.{Standing, GrantedIn, Walked, Overdrawn, InAll, TakenBack, InOne}
+use Rattle.dh_bind.specs.Ledgers.{Alike, IsMark, AreMarks, Rises, spent_at, ports_in, undone_ledgers, ends_now, top, state_or, spent_in, spending_ports, spending_banks, ledger_banks}
+use Rattle.dh_bind.specs.Standings.{Standing, GrantedIn, MeetsWalked, Overdrawn, InAll, TakenBack, InOne}
 use Rattle.dh_plan.specs.declared.plans.Meets.{Meets as Tree}
 use Rattle.dh_plan.specs.SeenPlans.{meets_seen, alls, ones}
 use Rattle.dh_bind.proofs.Flat.{rest_is}
@@ -58,7 +58,7 @@ nothing_behind : (l : List Mark) → l ≡ l ++ []
 nothing_behind [] = refl
 nothing_behind (x ∷ l) = ap (λ (m : List Mark). x ∷ m) (nothing_behind l)
 
-pub walked_none : (c : Costs) (s : Standing) → Walked c nothing s s
+pub walked_none : (c : Costs) (s : Standing) → MeetsWalked c nothing s s
 walked_none c s = record {
   keeps = keeps_self s;
   spent = λ m b few. nothing_added (spent_at s.ledgers m b);
@@ -68,13 +68,13 @@ walked_none c s = record {
   granted = granted_none c s.ledgers s.draft.firsts;
 }
 
-pub walked_then : (c : Costs) (l r : Meets) (a b d : Standing) → Walked c l a b → Walked c r b d → Walked c (all l r) a d
+pub walked_then : (c : Costs) (l r : Meets) (a b d : Standing) → MeetsWalked c l a b → MeetsWalked c r b d → MeetsWalked c (all l r) a d
 walked_then c l r a b d x y = record {
   keeps = keeps_then a b d x.keeps y.keeps;
   spent = λ m k few. added _ (spent_at b.ledgers m k) (spent_at a.ledgers m k) (load (cost c m k) l) (load (cost c m k) r) (y.spent m k few) (x.spent m k few);
   more = x.more ++ y.more;
   log = y.log ∙ (ap (λ (z : List Mark). z ++ y.more) x.log ∙ append_assoc a.log x.more y.more);
-  back = undone_joined x.more y.more d.ledgers ∙ (ap (λ (z : List Spending). undone x.more z) y.back ∙ x.back);
+  back = undone_joined x.more y.more d.ledgers ∙ (ap (λ (z : List Spending). undone_ledgers x.more z) y.back ∙ x.back);
   granted = granted_all c a.ledgers b.ledgers l r a.draft.firsts b.draft.firsts d.draft.firsts (λ m k few. x.spent m k few) x.granted y.granted;
 }
 
@@ -85,9 +85,9 @@ left_over : (s n p r w : ℕ) → s + (p + r) ≡ w → n ≡ s + p → n + r �
 left_over s n p r w e f = omega (arith, e, f)
 
 -- a part was walked
-pub all_turn : (whole part rest : Meets) (start now next : Standing) → InAll whole (all part rest) start now → Walked now.costs part now next → InAll whole rest start next
+pub all_turn : (whole part rest : Meets) (start now next : Standing) → InAll whole (all part rest) start now → MeetsWalked now.costs part now next → InAll whole rest start next
 all_turn whole part rest start now next so step =
-    let here : Walked start.costs part now next = subst (λ (c : Costs). Walked c part now next) so.keeps.costs step in
+    let here : MeetsWalked start.costs part now next = subst (λ (c : Costs). MeetsWalked c part now next) so.keeps.costs step in
     record {
       keeps = keeps_then start now next so.keeps step.keeps;
       so = λ end w. so.so end (walked_then start.costs part rest now next end here w);
@@ -140,7 +140,7 @@ mark_top ledgers k bank h = of_get ledgers k bank h (slice_get ledgers k.memory)
 abbrev pub Topped : List Spending → List Mark → (memory bank : ℕ) → Type 0
 Topped ledgers log memory bank =
     (top (ends_now ledgers log) memory bank ≡ spent_at ledgers memory bank)
-    ⊎ ((top (ends_now ledgers log) memory bank ≡ 0) × (spent_at (undone log ledgers) memory bank ≡ spent_at ledgers memory bank))
+    ⊎ ((top (ends_now ledgers log) memory bank ≡ 0) × (spent_at (undone_ledgers log ledgers) memory bank ≡ spent_at ledgers memory bank))
 
 top_step : (t n : ℕ) → t ≡ 0 → max n t ≡ n
 top_step t n e = grind (arith, e)
@@ -170,16 +170,16 @@ topped ledgers (k ∷ log) memory bank every =
       ]
       | inr e ↦ elim (topped ledgers log memory bank every.1) [
         | inl f ↦ inl (top_past _ _ (entry_other k memory _ e) ∙ f)
-        | inr f ↦ inr (top_past _ _ (entry_other k memory _ e) ∙ f.0, spent_other (undone log ledgers) k.memory k.state memory bank (λ g. e (sym g)) ∙ f.1)
+        | inr f ↦ inr (top_past _ _ (entry_other k memory _ e) ∙ f.0, spent_other (undone_ledgers log ledgers) k.memory k.state memory bank (λ g. e (sym g)) ∙ f.1)
       ]
     ]
 
 -- present states are marks
-end_ports : (x : Option Spending) (s : Spending) (n : ℕ) → s.ports ≡ n → ports_of x ≡ n → (state_or x s).ports ≡ n
+end_ports : (x : Option Spending) (s : Spending) (n : ℕ) → s.ports ≡ n → spending_ports x ≡ n → (state_or x s).ports ≡ n
 end_ports None s n e f = e
 end_ports (Some t) s n e f = f
 
-end_banks : (x : Option Spending) (s : Spending) (n : ℕ) → length s.spent ≡ n → banks_of x ≡ n → length (state_or x s).spent ≡ n
+end_banks : (x : Option Spending) (s : Spending) (n : ℕ) → length s.spent ≡ n → spending_banks x ≡ n → length (state_or x s).spent ≡ n
 end_banks None s n e f = e
 end_banks (Some t) s n e f = f
 
@@ -189,7 +189,7 @@ ends_stand ledgers (k ∷ log) every = (
   record {
     inside = every.0.inside;
     ports = end_ports (slice_get ledgers k.memory) k.state (ports_in ledgers k.memory) every.0.ports refl;
-    banks = end_banks (slice_get ledgers k.memory) k.state (banks_in ledgers k.memory) every.0.banks refl;
+    banks = end_banks (slice_get ledgers k.memory) k.state (ledger_banks ledgers k.memory) every.0.banks refl;
   },
   ends_stand ledgers log every.1,
 )
@@ -206,10 +206,10 @@ part_touched s t n p e f = grind (arith, e, f)
 part_untouched : (s t n p : ℕ) → t ≡ 0 → s ≡ n → n ≡ s + p → max s t ≡ s + p
 part_untouched s t n p e f g = grind (arith, e, f, g)
 
-module _ (whole part rest : Meets) (start now mid next : Standing) (ends then_ends : List Mark) (begun : ℕ) (so : InOne whole (one part rest) start now ends) (step : Walked now.costs part now mid)
+module _ (whole part rest : Meets) (start now mid next : Standing) (ends then_ends : List Mark) (begun : ℕ) (so : InOne whole (one part rest) start now ends) (step : MeetsWalked now.costs part now mid)
     (taken : TakenBack begun mid next ends then_ends) (begun_is : begun ≡ length start.log) where
-  here : Walked start.costs part now mid
-  here = subst (λ (c : Costs). Walked c part now mid) so.costs step
+  here : MeetsWalked start.costs part now mid
+  here = subst (λ (c : Costs). MeetsWalked c part now mid) so.costs step
 
   log_is : mid.log ≡ start.log ++ here.more
   log_is = here.log ∙ ap (λ (l : List Mark). l ++ here.more) so.log
@@ -218,7 +218,7 @@ module _ (whole part rest : Meets) (start now mid next : Standing) (ends then_en
   part_log = ap (λ (l : List Mark). drop begun l) log_is ∙ drop_at start.log here.more begun (sym begun_is)
 
   ledgers_back : next.ledgers ≡ start.ledgers
-  ledgers_back = taken.ledgers ∙ (ap (λ (l : List Mark). undone l mid.ledgers) part_log ∙ (here.back ∙ so.ledgers))
+  ledgers_back = taken.ledgers ∙ (ap (λ (l : List Mark). undone_ledgers l mid.ledgers) part_log ∙ (here.back ∙ so.ledgers))
 
   mid_alike : Alike mid.ledgers start.ledgers
   mid_alike = alike_back start.ledgers mid.ledgers (subst (λ (l : List Spending). Alike l mid.ledgers) so.ledgers here.keeps.alike)
@@ -255,7 +255,7 @@ risen : (n s t w : ℕ) → n ≡ max s t → max (max s t) (s + 0) ≡ s + w �
 risen n s t w e f = grind (arith, e, f)
 
 pub one_done : (whole : Meets) (start now next : Standing) (ends : List Mark) → InOne whole nothing start now ends → Rises ends now.ledgers next.ledgers now.log next.log → next.costs ≡ now.costs → next.draft ≡ now.draft
-    → Walked start.costs whole start next
+    → MeetsWalked start.costs whole start next
 one_done whole start now next ends so rises costs draft = record {
   keeps = record {
     costs = costs ∙ so.costs;
@@ -287,19 +287,19 @@ one_overdrawn whole part rest start now ends so over =
 
 -- a part of a list, in turn
 pub all_part : (whole : Meets) (parts : List Tree) (i : ℕ) (part : Tree) (start now next : Standing) → i < length parts → part ≡ get_or parts i part → InAll whole (alls (drop i parts)) start now
-    → Walked now.costs (meets_seen part) now next → InAll whole (alls (drop (i + 1) parts)) start next
+    → MeetsWalked now.costs (meets_seen part) now next → InAll whole (alls (drop (i + 1) parts)) start next
 all_part whole parts i part start now next h e so step =
     all_turn whole (meets_seen part) (alls (drop (i + 1) parts)) start now next
     (subst (λ (l : List Tree). InAll whole (alls l) start now) (rest_is parts i part h e) so) step
 
 pub one_part : (whole : Meets) (parts : List Tree) (i : ℕ) (part : Tree) (start now mid next : Standing) (ends then_ends : List Mark) (begun : ℕ) → i < length parts → part ≡ get_or parts i part
-    → InOne whole (ones (drop i parts)) start now ends → Walked now.costs (meets_seen part) now mid → TakenBack begun mid next ends then_ends → begun ≡ length start.log → InOne whole (ones (drop (i + 1) parts)) start next then_ends
+    → InOne whole (ones (drop i parts)) start now ends → MeetsWalked now.costs (meets_seen part) now mid → TakenBack begun mid next ends then_ends → begun ≡ length start.log → InOne whole (ones (drop (i + 1) parts)) start next then_ends
 one_part whole parts i part start now mid next ends then_ends begun h e so step taken begun_is =
     one_turn whole (meets_seen part) (ones (drop (i + 1) parts)) start now mid next ends then_ends begun
     (subst (λ (l : List Tree). InOne whole (ones l) start now ends) (rest_is parts i part h e) so) step taken begun_is
 
 pub one_ended : (whole : Meets) (parts : List Tree) (i : ℕ) (start now next : Standing) (ends same_ends : List Mark) → length parts ≤ i → InOne whole (ones (drop i parts)) start now ends → same_ends ≡ ends
-    → Rises same_ends now.ledgers next.ledgers now.log next.log → next.costs ≡ now.costs → next.draft ≡ now.draft → Walked start.costs whole start next
+    → Rises same_ends now.ledgers next.ledgers now.log next.log → next.costs ≡ now.costs → next.draft ≡ now.draft → MeetsWalked start.costs whole start next
 one_ended whole parts i start now next ends same_ends h so e rises costs draft =
     one_done whole start now next ends (subst (λ (l : List Tree). InOne whole (ones l) start now ends) (drop_all i parts h) so)
     (subst (λ (l : List Mark). Rises l now.ledgers next.ledgers now.log next.log) e rises) costs draft

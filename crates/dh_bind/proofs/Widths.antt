@@ -8,7 +8,7 @@ use Rattle.dh_plan.specs.declared.operations.PlanBlock.{PlanBlock}
 use Rattle.dh_plan.specs.declared.operations.Reach.{Reach}
 use Rattle.dh_plan.specs.PlainPlans.{PlainPlan, first_in}
 use Rattle.dh_plan.specs.SoundPlans.{use_in, HasUse}
-use Rattle.dh_bind.specs.Drafts.{all_operations, banks_width, use_width, width_of, AllUses}
+use Rattle.dh_bind.specs.Drafts.{all_operations, banks_width, use_width, operations_width, AllUses}
 use Rattle.dh_bind.proofs.Flat.{use_in_all, rest_is}
 
 -- a listed bank has a place
@@ -19,20 +19,20 @@ all_narrow n (b ∷ bs) h = (
   all_narrow n bs (let k = le-max_right (b.0 + 1) (banks_width bs) in omega (arith, h, k)),
 )
 
-widths_among : (os : List Operation) (i : ℕ) (o : Operation) → slice_get os i ≡ Some o → use_width (use_in o.form) ≤ width_of os
+widths_among : (os : List Operation) (i : ℕ) (o : Operation) → slice_get os i ≡ Some o → use_width (use_in o.form) ≤ operations_width os
 widths_among [] i o e = absurd (let f : None ≡ Some o = e in cc)
 widths_among (p ∷ os) zero o e =
-    subst (λ (q : Operation). use_width (use_in q.form) ≤ width_of (p ∷ os)) (let f : p ≡ o = (let g : Some p ≡ Some o = e in cc) in f) (le-max_left (use_width (use_in p.form)) (width_of os))
+    subst (λ (q : Operation). use_width (use_in q.form) ≤ operations_width (p ∷ os)) (let f : p ≡ o = (let g : Some p ≡ Some o = e in cc) in f) (le-max_left (use_width (use_in p.form)) (operations_width os))
 widths_among (p ∷ os) (suc i) o e =
     let h = widths_among os i o e in
-    let k = le-max_right (use_width (use_in p.form)) (width_of os) in
+    let k = le-max_right (use_width (use_in p.form)) (operations_width os) in
     omega (arith, h, k)
 
-pub banks_fit : (plan : PlainPlan) (b i : ℕ) (r : Reach) → HasUse plan b i r → AllByRecursion (λ x. x.0 < width_of (all_operations plan.blocks)) r.banks
+pub banks_fit : (plan : PlainPlan) (b i : ℕ) (r : Reach) → HasUse plan b i r → AllByRecursion (λ x. x.0 < operations_width (all_operations plan.blocks)) r.banks
 banks_fit plan b i r h =
     let k = widths_among (all_operations plan.blocks) (first_in plan b + i) h.operation (use_in_all plan b i r h) in
     let e : use_width (use_in h.operation.form) ≡ banks_width r.banks = ap use_width h.uses in
-    all_narrow (width_of (all_operations plan.blocks)) r.banks (omega (arith, k, e))
+    all_narrow (operations_width (all_operations plan.blocks)) r.banks (omega (arith, k, e))
 
 -- rows are no wider than need be
 most : (a b n : ℕ) → a ≤ n → b ≤ n → max a b ≤ n
@@ -46,14 +46,14 @@ use_most : (n : ℕ) (u : Option Reach) → ((r : Reach) → u ≡ Some r → Al
 use_most n None all = omega arith
 use_most n (Some r) all = banks_most n r.banks (all r refl)
 
-pub width_most : (n : ℕ) (os : List Operation) → AllUses (λ r. AllByRecursion (λ x. x.0 < n) r.banks) os → width_of os ≤ n
+pub width_most : (n : ℕ) (os : List Operation) → AllUses (λ r. AllByRecursion (λ x. x.0 < n) r.banks) os → operations_width os ≤ n
 width_most n [] all = omega arith
 width_most n (o ∷ os) all =
-    most (use_width (use_in o.form)) (width_of os) n (use_most n (use_in o.form) (λ r e. all 0 o r refl e)) (width_most n os (λ k p r e f. all (suc k) p r e f))
+    most (use_width (use_in o.form)) (operations_width os) n (use_most n (use_in o.form) (λ r e. all 0 o r refl e)) (width_most n os (λ k p r e f. all (suc k) p r e f))
 
 -- one block on
-widths_joined : (xs ys : List Operation) → width_of (xs ++ ys) ≡ max (width_of xs) (width_of ys)
-widths_joined [] ys = none_most (width_of ys)
+widths_joined : (xs ys : List Operation) → operations_width (xs ++ ys) ≡ max (operations_width xs) (operations_width ys)
+widths_joined [] ys = none_most (operations_width ys)
   where
     none_most : (n : ℕ) → n ≡ max 0 n
     none_most n = grind arith
@@ -65,8 +65,8 @@ widths_joined (o ∷ xs) ys = ap (λ (n : ℕ). max (use_width (use_in o.form)) 
 next_width : (a b c n t : ℕ) → max a (max b c) ≡ t → n ≡ max a b → max n c ≡ t
 next_width a b c n t e f = grind (arith, e, f)
 
-pub width_step : (bs : List PlanBlock) (i : ℕ) (p : PlanBlock) (wide next total : ℕ) → i < length bs → p ≡ get_or bs i p → max wide (width_of (all_operations (drop i bs))) ≡ total → next ≡ max wide (width_of p.operations)
-    → max next (width_of (all_operations (drop (i + 1) bs))) ≡ total
+pub width_step : (bs : List PlanBlock) (i : ℕ) (p : PlanBlock) (wide next total : ℕ) → i < length bs → p ≡ get_or bs i p → max wide (operations_width (all_operations (drop i bs))) ≡ total → next ≡ max wide (operations_width p.operations)
+    → max next (operations_width (all_operations (drop (i + 1) bs))) ≡ total
 width_step bs i p wide next total h e so f =
-    let r : width_of (all_operations (drop i bs)) ≡ max (width_of p.operations) (width_of (all_operations (drop (i + 1) bs))) = ap (λ (ps : List PlanBlock). width_of (all_operations ps)) (rest_is bs i p h e) ∙ widths_joined p.operations (all_operations (drop (i + 1) bs)) in
-    next_width wide (width_of p.operations) (width_of (all_operations (drop (i + 1) bs))) next total (ap (λ (n : ℕ). max wide n) (sym r) ∙ so) f
+    let r : operations_width (all_operations (drop i bs)) ≡ max (operations_width p.operations) (operations_width (all_operations (drop (i + 1) bs))) = ap (λ (ps : List PlanBlock). operations_width (all_operations ps)) (rest_is bs i p h e) ∙ widths_joined p.operations (all_operations (drop (i + 1) bs)) in
+    next_width wide (operations_width p.operations) (operations_width (all_operations (drop (i + 1) bs))) next total (ap (λ (n : ℕ). max wide n) (sym r) ∙ so) f

@@ -7,7 +7,7 @@ use Rattle.dh_plan.specs.declared.operations.PlanBlock.{PlanBlock}
 use Rattle.dh_plan.specs.declared.operations.Reach.{Reach}
 use Rattle.dh_plan.specs.PlainPlans.{PlainPlan}
 use Rattle.dh_plan.specs.SoundPlans.{use_in, HasUse, place_charge, plan_charge}
-use Rattle.dh_bind.specs.Drafts.{all_operations, rows_of, width_of, cell_of, flattened}
+use Rattle.dh_bind.specs.Drafts.{all_operations, operations_rows, operations_width, cell_of, flattened}
 
 pub record Costs : Type 0 where
   -- how wide a row of counts is
@@ -15,8 +15,8 @@ pub record Costs : Type 0 where
   pub memories : List (Option ℕ)
   pub counts : List ℕ
 
-abbrev pub memory_at : List (Option ℕ) → (access : ℕ) → Option ℕ
-memory_at memories access = flattened (slice_get memories access)
+abbrev pub memory_of_access : List (Option ℕ) → (access : ℕ) → Option ℕ
+memory_of_access memories access = flattened (slice_get memories access)
 
 abbrev pub cost_on : Option ℕ → (memory count : ℕ) → ℕ
 cost_on None memory count = 0
@@ -24,15 +24,15 @@ cost_on (Some m) memory count = if m == memory then count else 0
 
 -- what an access charges on a bank of a memory
 abbrev pub cost : Costs → (memory bank access : ℕ) → ℕ
-cost c memory bank access = cost_on (memory_at c.memories access) memory (slice_index c.counts (cell_of c.wide access bank))
+cost c memory bank access = cost_on (memory_of_access c.memories access) memory (slice_index c.counts (cell_of c.wide access bank))
 
 -- the tables are those of a plan
 pub record AreCosts (plan : PlainPlan) (c : Costs) : Type 0 where
-  pub memories : (b i : ℕ) (r : Reach) → HasUse plan b i r → memory_at c.memories r.access ≡ Some r.memory
-  pub wide : c.wide ≡ width_of (all_operations plan.blocks)
+  pub memories : (b i : ℕ) (r : Reach) → HasUse plan b i r → memory_of_access c.memories r.access ≡ Some r.memory
+  pub wide : c.wide ≡ operations_width (all_operations plan.blocks)
   pub charges : (memory bank access : ℕ) → bank < c.wide → cost c memory bank access ≡ plan_charge plan memory bank access
-  pub inside : (access memory : ℕ) → memory_at c.memories access ≡ Some memory → memory < length plan.table
-  pub rows : length c.memories ≡ rows_of (all_operations plan.blocks)
+  pub inside : (access memory : ℕ) → memory_of_access c.memories access ≡ Some memory → memory < length plan.table
+  pub rows : length c.memories ≡ operations_rows (all_operations plan.blocks)
   pub cells : length c.counts ≡ length c.memories * c.wide
 
 -- How the tables come about.
@@ -57,7 +57,7 @@ last_memory access (o ∷ os) before = last_memory access os (use_memory access 
 
 -- these operations were noted, in rows so wide
 pub record Noted (wide : ℕ) (os : List Operation) (old new : Costs) : Type 0 where
-  pub memories : (access : ℕ) → access < length old.memories → memory_at new.memories access ≡ last_memory access os (memory_at old.memories access)
+  pub memories : (access : ℕ) → access < length old.memories → memory_of_access new.memories access ≡ last_memory access os (memory_of_access old.memories access)
   pub counts : (access bank : ℕ) → access < length old.memories → bank < wide
       → slice_index new.counts (cell_of wide access bank) ≡ max (slice_index old.counts (cell_of wide access bank)) (raw_charge access bank os)
   pub rows : length new.memories ≡ length old.memories

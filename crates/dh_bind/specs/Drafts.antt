@@ -20,9 +20,9 @@ abbrev pub use_rows : Option Reach → ℕ
 use_rows None = 0
 use_rows (Some r) = r.access + 1
 
-abbrev pub rows_of : List Operation → ℕ
-rows_of [] = 0
-rows_of (o ∷ os) = max (use_rows (use_in o.form)) (rows_of os)
+abbrev pub operations_rows : List Operation → ℕ
+operations_rows [] = 0
+operations_rows (o ∷ os) = max (use_rows (use_in o.form)) (operations_rows os)
 
 -- one more than the greatest bank that is listed, 0 where none is
 abbrev pub banks_width : List (ℕ × ℕ) → ℕ
@@ -34,9 +34,9 @@ abbrev pub use_width : Option Reach → ℕ
 use_width None = 0
 use_width (Some r) = banks_width r.banks
 
-abbrev pub width_of : List Operation → ℕ
-width_of [] = 0
-width_of (o ∷ os) = max (use_width (use_in o.form)) (width_of os)
+abbrev pub operations_width : List Operation → ℕ
+operations_width [] = 0
+operations_width (o ∷ os) = max (use_width (use_in o.form)) (operations_width os)
 
 -- the number of an access and a bank, where rows are so wide
 abbrev pub cell_of : (wide access bank : ℕ) → ℕ
@@ -85,30 +85,30 @@ pub record Draft : Type 0 where
   pub firsts : List (Option ℕ)
 
 -- how wide a row of it is
-abbrev pub width_in : Draft → ℕ
-width_in d = width_of (all_operations d.plan.blocks)
+abbrev pub draft_width : Draft → ℕ
+draft_width d = operations_width (all_operations d.plan.blocks)
 
 -- the ports of operations as far as they are granted
-abbrev pub uses_of : Draft → Uses
-uses_of d = record { ports = all_pairs (width_in d) d.firsts (all_operations d.plan.blocks); units = [] }
+abbrev pub draft_uses : Draft → Uses
+draft_uses d = record { ports = all_pairs (draft_width d) d.firsts (all_operations d.plan.blocks); units = [] }
 
 -- how many accesses have a place in it
-abbrev pub accesses_of : Draft → ℕ
-accesses_of d = rows_of (all_operations d.plan.blocks)
+abbrev pub draft_access_count : Draft → ℕ
+draft_access_count d = operations_rows (all_operations d.plan.blocks)
 
 -- what holds of a draft: its plan is formed, and it has a place for each access and each bank below its width
 pub record IsDraft (d : Draft) : Type 0 where
   pub formed : IsFormed (plan_seen d.plan)
-  pub long : length d.firsts ≡ accesses_of d * width_in d
+  pub long : length d.firsts ≡ draft_access_count d * draft_width d
 
 -- so it is kept, with the width of its rows
 pub record IsKept (rows_wide : ℕ) (d : Draft) : Type 0 where
   pub draft : IsDraft d
-  pub wide : rows_wide ≡ width_in d
+  pub wide : rows_wide ≡ draft_width d
 
 -- the draft in which an access was granted ports of a bank from this one on
 abbrev pub granted_at : Draft → (access bank first : ℕ) → Draft
-granted_at d access bank first = record { plan = d.plan; firsts = put_first (width_in d) d.firsts access bank first }
+granted_at d access bank first = record { plan = d.plan; firsts = put_first (draft_width d) d.firsts access bank first }
 
 -- a bank has a place in a row, and a place counted from the first port there is a number of a port
 pub record FitsPair (wide : ℕ) (firsts : List (Option ℕ)) (access : ℕ) (b : ℕ × ℕ) : Type 0 where
@@ -121,4 +121,4 @@ pub record FitsPairs (wide : ℕ) (firsts : List (Option ℕ)) (r : Reach) : Typ
   pub pairs : AllByRecursion (FitsPair wide firsts r.access) r.banks
 
 abbrev pub PortsFit : Draft → Type 0
-PortsFit d = AllUses (λ r. AllByRecursion (FitsPair (width_in d) d.firsts r.access) r.banks) (all_operations d.plan.blocks)
+PortsFit d = AllUses (λ r. AllByRecursion (FitsPair (draft_width d) d.firsts r.access) r.banks) (all_operations d.plan.blocks)

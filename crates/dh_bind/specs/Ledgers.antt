@@ -10,29 +10,29 @@ abbrev pub spent_in : Option Spending → (bank : ℕ) → ℕ
 spent_in None bank = 0
 spent_in (Some s) bank = spent_on s bank
 
-abbrev pub ports_of : Option Spending → ℕ
-ports_of None = 0
-ports_of (Some s) = s.ports
+abbrev pub spending_ports : Option Spending → ℕ
+spending_ports None = 0
+spending_ports (Some s) = s.ports
 
-abbrev pub banks_of : Option Spending → ℕ
-banks_of None = 0
-banks_of (Some s) = length s.spent
+abbrev pub spending_banks : Option Spending → ℕ
+spending_banks None = 0
+spending_banks (Some s) = length s.spent
 
 -- what is spent on a bank of a memory, its ports, and the banks
 abbrev pub spent_at : List Spending → (memory bank : ℕ) → ℕ
 spent_at ledgers memory bank = spent_in (slice_get ledgers memory) bank
 
 abbrev pub ports_in : List Spending → (memory : ℕ) → ℕ
-ports_in ledgers memory = ports_of (slice_get ledgers memory)
+ports_in ledgers memory = spending_ports (slice_get ledgers memory)
 
-abbrev pub banks_in : List Spending → (memory : ℕ) → ℕ
-banks_in ledgers memory = banks_of (slice_get ledgers memory)
+abbrev pub ledger_banks : List Spending → (memory : ℕ) → ℕ
+ledger_banks ledgers memory = spending_banks (slice_get ledgers memory)
 
 -- they are of the same memories
 pub record Alike (old new : List Spending) : Type 0 where
   pub long : length new ≡ length old
   pub ports : (memory : ℕ) → ports_in new memory ≡ ports_in old memory
-  pub banks : (memory : ℕ) → banks_in new memory ≡ banks_in old memory
+  pub banks : (memory : ℕ) → ledger_banks new memory ≡ ledger_banks old memory
 
 -- so much more is spent on one bank
 pub record SpentMore (old new : List Spending) (memory bank count : ℕ) : Type 0 where
@@ -50,15 +50,15 @@ GrantsAt old new memory bank count (Err full) = (new ≡ old) × (ports_in old m
 pub record IsMark (ledgers : List Spending) (k : Mark) : Type 0 where
   pub inside : k.memory < length ledgers
   pub ports : k.state.ports ≡ ports_in ledgers k.memory
-  pub banks : length k.state.spent ≡ banks_in ledgers k.memory
+  pub banks : length k.state.spent ≡ ledger_banks ledgers k.memory
 
 abbrev pub AreMarks : List Spending → List Mark → Type 0
 AreMarks ledgers log = AllByRecursion (IsMark ledgers) log
 
 -- the ledgers before the changes of a log, in which each mark is of the state before its change
-abbrev pub undone : List Mark → List Spending → List Spending
-undone [] ledgers = ledgers
-undone (k ∷ ks) ledgers = slice_set (undone ks ledgers) k.memory k.state
+abbrev pub undone_ledgers : List Mark → List Spending → List Spending
+undone_ledgers [] ledgers = ledgers
+undone_ledgers (k ∷ ks) ledgers = slice_set (undone_ledgers ks ledgers) k.memory k.state
 
 abbrev pub state_or : Option Spending → Spending → Spending
 state_or None s = s
@@ -80,4 +80,4 @@ pub record Rises (ends : List Mark) (old new : List Spending) (log then_log : Li
   pub spent : (memory bank : ℕ) → spent_at new memory bank ≡ max (spent_at old memory bank) (top ends memory bank)
   pub more : List Mark
   pub log_is : then_log ≡ log ++ more
-  pub back : undone more new ≡ old
+  pub back : undone_ledgers more new ≡ old

@@ -13,9 +13,9 @@ use Rattle.dh_plan.specs.declared.operations.Reach.{Reach}
 use Rattle.dh_plan.specs.BoundPorts.{port_among}
 use Rattle.dh_plan.specs.PlainPlans.{PlainPlan, first_in, operation_count}
 use Rattle.dh_plan.specs.SoundPlans.{HasUse, IsListed, plan_charge}
-use Rattle.dh_bind.specs.Costs.{Costs, AreCosts, cost, memory_at}
-use Rattle.dh_bind.specs.Drafts.{Draft, first_at, accesses_of, width_in, cell_of}
-use Rattle.dh_bind.specs.Ledgers.{Alike, SpentMore, AreMarks, spent_at, ports_in, banks_in, ends_now, undone, state_or, top}
+use Rattle.dh_bind.specs.Costs.{Costs, AreCosts, cost, memory_of_access}
+use Rattle.dh_bind.specs.Drafts.{Draft, first_at, draft_access_count, draft_width, cell_of}
+use Rattle.dh_bind.specs.Ledgers.{Alike, SpentMore, AreMarks, spent_at, ports_in, ledger_banks, ends_now, undone_ledgers, state_or, top}
 
 pub record Standing : Type 0 where
   pub costs : Costs
@@ -25,17 +25,17 @@ pub record Standing : Type 0 where
 
 -- what always holds of it
 pub record IsStanding (s : Standing) : Type 0 where
-  pub wide : s.costs.wide ≡ width_in s.draft
+  pub wide : s.costs.wide ≡ draft_width s.draft
   pub few : s.costs.wide ≤ 64
   pub cells : length s.costs.counts ≡ length s.costs.memories * s.costs.wide
-  pub rows : length s.costs.memories ≡ accesses_of s.draft
+  pub rows : length s.costs.memories ≡ draft_access_count s.draft
   pub firsts : length s.draft.firsts ≡ length s.costs.memories * s.costs.wide
-  pub inside : (access memory : ℕ) → memory_at s.costs.memories access ≡ Some memory → memory < length s.ledgers
-  pub banks : (memory : ℕ) → memory < length s.ledgers → banks_in s.ledgers memory ≡ 64
+  pub inside : (access memory : ℕ) → memory_of_access s.costs.memories access ≡ Some memory → memory < length s.ledgers
+  pub banks : (memory : ℕ) → memory < length s.ledgers → ledger_banks s.ledgers memory ≡ 64
   pub marks : AreMarks s.ledgers s.log
 
 -- all but the log, the ledgers and the first ports is the same
-pub record Keeps (old new : Standing) : Type 0 where
+pub record KeepsCostsAndPlan (old new : Standing) : Type 0 where
   pub costs : new.costs ≡ old.costs
   pub plan : new.draft.plan ≡ old.draft.plan
   pub alike : Alike old.ledgers new.ledgers
@@ -54,7 +54,7 @@ abbrev pub count_at : Standing → (access bank : ℕ) → ℕ
 count_at s access bank = slice_index s.costs.counts (cell_of s.costs.wide access bank)
 
 pub record BankCharged (wide access memory bank : ℕ) (old new : Standing) : Type 0 where
-  pub keeps : Keeps old new
+  pub keeps : KeepsCostsAndPlan old new
   pub log : new.log ≡ old.log
   pub spent : SpentMore old.ledgers new.ledgers memory bank (count_at old access bank)
   pub others : (a b : ℕ) → b < wide → ((a ≡ access) × (b ≡ bank) → ⊥) → first_at wide new.draft.firsts a b ≡ first_at wide old.draft.firsts a b
@@ -67,7 +67,7 @@ ChargesBank access memory bank old new (Err stop.Full) = ports_in old.ledgers me
 
 -- the banks before this one, of an access of this memory
 pub record RowCharged (access memory upto : ℕ) (old new : Standing) : Type 0 where
-  pub keeps : Keeps old new
+  pub keeps : KeepsCostsAndPlan old new
   pub log : new.log ≡ old.log
   pub spent : (m b : ℕ) → b < old.costs.wide → spent_at new.ledgers m b ≡ spent_at old.ledgers m b + (if nat_lt b upto then cost old.costs m b access else 0)
   pub back : (s : Spending) → slice_set new.ledgers memory s ≡ slice_set old.ledgers memory s
@@ -90,17 +90,17 @@ ChargesRow access memory old new (Err stop.Full) = FullAt access memory old
 -- the first ports that accesses of a part were granted, which began with these ledgers
 pub record GrantedIn (c : Costs) (ledgers : List Spending) (t : Meets) (old new : List (Option ℕ)) : Type 0 where
   pub others : (a b : ℕ) → b < c.wide → (In a t → ⊥) → first_at c.wide new a b ≡ first_at c.wide old a b
-  pub own : Distinct t → (a b m : ℕ) → b < c.wide → In a t → memory_at c.memories a ≡ Some m → 0 < cost c m b a
+  pub own : Distinct t → (a b m : ℕ) → b < c.wide → In a t → memory_of_access c.memories a ≡ Some m → 0 < cost c m b a
       → first_at c.wide new a b ≡ Some (spent_at ledgers m b + begin (cost c m b) a t)
 
-pub record Walked (c : Costs) (t : Meets) (old new : Standing) : Type 0 where
-  pub keeps : Keeps old new
+pub record MeetsWalked (c : Costs) (t : Meets) (old new : Standing) : Type 0 where
+  pub keeps : KeepsCostsAndPlan old new
   -- each bank is loaded with the part's load
   pub spent : (m b : ℕ) → b < c.wide → spent_at new.ledgers m b ≡ spent_at old.ledgers m b + load (cost c m b) t
   -- the log says how to come back
   pub more : List Mark
   pub log : new.log ≡ old.log ++ more
-  pub back : undone more new.ledgers ≡ old.ledgers
+  pub back : undone_ledgers more new.ledgers ≡ old.ledgers
   pub granted : GrantedIn c old.ledgers t old.draft.firsts new.draft.firsts
 
 -- a bank is loaded beyond its ports
@@ -110,15 +110,15 @@ pub record Overdrawn (c : Costs) (t : Meets) (old : Standing) : Type 0 where
   pub few : bank < c.wide
   pub beyond : ports_in old.ledgers memory < spent_at old.ledgers memory bank + load (cost c memory bank) t
 
-abbrev pub Walks : Meets → (old new : Standing) → Result (Unit {0}) Stop → Type 0
-Walks t old new (Ok done) = Walked old.costs t old new
-Walks t old new (Err stop.NoMemory) = Unit {0}
-Walks t old new (Err stop.Full) = Overdrawn old.costs t old
+abbrev pub WalksMeets : Meets → (old new : Standing) → Result (Unit {0}) Stop → Type 0
+WalksMeets t old new (Ok done) = MeetsWalked old.costs t old new
+WalksMeets t old new (Err stop.NoMemory) = Unit {0}
+WalksMeets t old new (Err stop.Full) = Overdrawn old.costs t old
 
 -- what is still to be walked of an `all`, and that it leads to the whole
 pub record InAll (whole rest : Meets) (start now : Standing) : Type 0 where
-  pub keeps : Keeps start now
-  pub so : (end : Standing) → Walked start.costs rest now end → Walked start.costs whole start end
+  pub keeps : KeepsCostsAndPlan start now
+  pub so : (end : Standing) → MeetsWalked start.costs rest now end → MeetsWalked start.costs whole start end
   pub loads : (m b : ℕ) → b < start.costs.wide → spent_at now.ledgers m b + load (cost start.costs m b) rest ≡ spent_at start.ledgers m b + load (cost start.costs m b) whole
 
 -- Parts of which no two meet.
@@ -128,7 +128,7 @@ pub record TakenBack (begun : ℕ) (old new : Standing) (ends then_ends : List M
   pub costs : new.costs ≡ old.costs
   pub draft : new.draft ≡ old.draft
   pub log : new.log ≡ take begun old.log
-  pub ledgers : new.ledgers ≡ undone (drop begun old.log) old.ledgers
+  pub ledgers : new.ledgers ≡ undone_ledgers (drop begun old.log) old.ledgers
   pub marks : AreMarks old.ledgers (drop begun old.log)
   pub noted : then_ends ≡ ends ++ ends_now old.ledgers (drop begun old.log)
 
@@ -154,7 +154,7 @@ pub record IsBegun (plan : Plan) (s : Standing) : Type 0 where
   pub ports : (memory : ℕ) → ports_in s.ledgers memory ≡ ports_at plan.table memory
 
 -- ports of operations, in order, are those of their accesses, each from the one on where its access begins
-pub record ArePlaced (plan : PlainPlan) (ports : List (List (ℕ × ℕ))) : Type 0 where
+pub record PortsArePlaced (plan : PlainPlan) (ports : List (List (ℕ × ℕ))) : Type 0 where
   pub long : length ports ≡ operation_count plan
   pub placed : (b i : ℕ) (r : Reach) (bank place : ℕ) → HasUse plan b i r → IsListed bank place r.banks
       → port_among bank (slice_index_or ports (first_in plan b + i) []) ≡ Some (begin (plan_charge plan r.memory bank) r.access plan.meets + place)

@@ -29,7 +29,7 @@ pub record BlockUnits (os : List Operation) (clocks : List ℕ) (upto : ℕ) (ol
       → slice_index units i ≡ products_at (slice_index clocks i) (take i os) (take i clocks)
 
 -- so of the first blocks of a plan
-pub record AreCounted (plan : PlainPlan) (t : Timing) (upto : ℕ) (units : List ℕ) : Type 0 where
+pub record AreUnitNumbers (plan : PlainPlan) (t : Timing) (upto : ℕ) (units : List ℕ) : Type 0 where
   pub long : length units ≡ operations_before plan.blocks upto
   pub each : (b i : ℕ) (o : Operation) → b < upto → slice_get (operations_in plan b) i ≡ Some o → is_product o.form ≡ true
       → slice_index units (first_in plan b + i) ≡ products_at (slice_index (clocks_in plan t b) i) (take i (operations_in plan b)) (take i (clocks_in plan t b))

@@ -42,13 +42,13 @@ impl<'a> Model for Binder<'a> {
 
 impl<'a> Binder<'a> {
     ghost use Rattle.std.specs.Prelude.{[], None};
-    ghost use Rattle.dh_bind.specs.Drafts.{uses_of, accesses_of, granted_at, all_operations, rows_of, width_in, first_at, PortsFit};
+    ghost use Rattle.dh_bind.specs.Drafts.{draft_uses, draft_access_count, granted_at, all_operations, operations_rows, draft_width, first_at, PortsFit};
 
     /// A binder of a plan, in which no operation has a port.
     pub fn new(alloc: Global, plan: &'a Plan) -> Result<Binder<'a>, NoMemory>
         requires { IsFormed (plan_seen plan.now) }
         ensures of { IfOk result (λ b. b.plan ≡ plan.now) }
-        ensures none { IfOk result (λ b. b.firsts ≡ replicate (accesses_of b * width_in b) None) }
+        ensures none { IfOk result (λ b. b.firsts ≡ replicate (draft_access_count b * draft_width b) None) }
     {
         let blocks = plan.blocks.as_slice();
         let wide = width_needed(blocks);
@@ -59,10 +59,10 @@ impl<'a> Binder<'a> {
     /// Gives each operation of the access that can reach the token's bank the port that its place there says, from
     /// the token's first one on. All else stays.
     pub fn drive(&mut self, token: Token, access: u32)
-        requires access { access < accesses_of self.old }
+        requires access { access < draft_access_count self.old }
         requires bank { token.bank < 64 }
         ensures drives { Drives (plan_seen self.old.plan) access token.memory token.bank token.first
-            (uses_of self.old) (uses_of self.new) }
+            (draft_uses self.old) (draft_uses self.new) }
         ensures granted { self.new ≡ granted_at self.old access token.bank token.first }
     {
         let (_memory, bank, first, _count) = token.end();
@@ -72,7 +72,7 @@ impl<'a> Binder<'a> {
     /// The bank and port pairs of each operation of the plan.
     pub fn ports(self, alloc: Global) -> Result<Items<Items<(u32, u32)>>, NoMemory>
         requires { PortsFit self }
-        ensures { IfOk result (λ all. all ≡ (uses_of self.entry).ports) }
+        ensures { IfOk result (λ all. all ≡ (draft_uses self.entry).ports) }
     {
         let Binder { plan, wide, firsts } = self;
         let mut all = Items::with_room(alloc, plan.operation_count())?;

@@ -5,7 +5,7 @@ ghost use Rattle.dh_plan.specs.BoundPorts.{IsBinding};
 ghost use Rattle.dh_plan.specs.Passes.{MayBind, timing_seen, uses_seen};
 ghost use Rattle.dh_plan.specs.PlainPlans.{operation_count};
 ghost use Rattle.dh_plan.specs.SeenPlans.{plan_seen};
-ghost use Rattle.dh_bind.specs.Standings.{ArePlaced};
+ghost use Rattle.dh_bind.specs.Standings.{PortsArePlaced};
 
 use crate::units::units_of;
 use crate::walker::{Stop, Walker};
@@ -17,7 +17,7 @@ use std::alloc::Global;
 /// The bank and port pairs of each operation of a plan.
 pub fn ports_of(alloc: Global, plan: &Plan) -> Result<Items<Items<(u32, u32)>>, NoMemory>
     requires { MayBind (plan_seen plan.now) }
-    ensures { IfOk result (λ ports. ArePlaced (plan_seen plan.now) ports) }
+    ensures { IfOk result (λ ports. PortsArePlaced (plan_seen plan.now) ports) }
 {
     let mut walker = Walker::new(alloc, plan)?;
     match walk(&mut walker, alloc, &plan.meets) {

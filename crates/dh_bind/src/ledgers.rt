@@ -4,7 +4,7 @@ ghost use Rattle.std.specs.Prelude.{◌≡◌, ◌<◌, ◌≤◌, ◌++◌, IfO
 ghost use Rattle.std.specs.List.{AllByRecursion};
 ghost use Rattle.dh_tree.specs.Shapes.{IsMemory};
 ghost use Rattle.dh_bind.specs.Fresh.{fresh};
-ghost use Rattle.dh_bind.specs.Ledgers.{Alike, AreMarks, GrantsAt, Rises, banks_in, ends_now, undone};
+ghost use Rattle.dh_bind.specs.Ledgers.{Alike, AreMarks, GrantsAt, Rises, ledger_banks, ends_now, undone_ledgers};
 
 use dh_base::NoMemory;
 use dh_ledger::{CountLedger, Full, Ledger, Token, grant};
@@ -28,7 +28,7 @@ pub fn grant_at(
     count: u32,
 ) -> Result<Token, Full>
     requires memory { memory < length ledgers.old }
-    requires bank { bank < banks_in ledgers.old memory }
+    requires bank { bank < ledger_banks ledgers.old memory }
     ensures { GrantsAt ledgers.old ledgers.new memory bank count result }
 {
     grant(&mut ledgers[memory as usize], memory, bank, count)
@@ -55,7 +55,7 @@ pub fn note_ends(
 /// Makes the ledgers what they were before the changes of a log.
 pub fn go_back(ledgers: &mut [CountLedger], log: &[Mark])
     requires { AreMarks ledgers.old log.now }
-    ensures back { ledgers.new ≡ undone log.now ledgers.old }
+    ensures back { ledgers.new ≡ undone_ledgers log.now ledgers.old }
     ensures alike { Alike ledgers.old ledgers.new }
 {
     for i in (0..log.len()).rev() {
@@ -91,7 +91,7 @@ pub fn grant_in(
     count: u32,
 ) -> Result<Token, Full>
     requires memory { memory < length ledgers.old.items }
-    requires bank { bank < banks_in ledgers.old.items memory }
+    requires bank { bank < ledger_banks ledgers.old.items memory }
     ensures { GrantsAt ledgers.old.items ledgers.new.items memory bank count result }
 {
     grant_at(ledgers.as_mut_slice(), memory, bank, count)
@@ -101,7 +101,7 @@ pub fn grant_in(
 pub fn back_to(ledgers: &mut Vec<CountLedger>, log: &mut Vec<Mark>, begun: usize)
     requires begun { begun ≤ length log.old.items }
     requires marks { AreMarks ledgers.old.items log.old.items }
-    ensures back { ledgers.new.items ≡ undone (drop begun log.old.items) ledgers.old.items }
+    ensures back { ledgers.new.items ≡ undone_ledgers (drop begun log.old.items) ledgers.old.items }
     ensures alike { Alike ledgers.old.items ledgers.new.items }
     ensures log { log.new.items ≡ take begun log.old.items }
 {

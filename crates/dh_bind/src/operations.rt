@@ -2,7 +2,7 @@
 
 ghost use Rattle.std.specs.Prelude.{◌≡◌, ◌≤◌, ◌^◌, option_copied};
 ghost use Rattle.dh_plan.specs.SoundPlans.{use_in};
-ghost use Rattle.dh_bind.specs.Drafts.{all_operations, banks_width, rows_of, use_rows, use_width, width_of};
+ghost use Rattle.dh_bind.specs.Drafts.{all_operations, banks_width, operations_rows, use_rows, use_width, operations_width};
 
 use dh_plan::{Operation, OperationForm, PlanBlock, Reach};
 
@@ -51,7 +51,7 @@ fn row_after(operation: &Operation) -> usize
 
 /// One more than the greatest access of operations; 0 where they use none.
 fn rows_in(operations: &[Operation]) -> usize
-    ensures number { result ≡ rows_of operations.now }
+    ensures number { result ≡ operations_rows operations.now }
     ensures fits { result ≤ 2 ^ 32 }
 {
     let mut rows = 0usize;
@@ -63,7 +63,7 @@ fn rows_in(operations: &[Operation]) -> usize
 
 /// The same of the operations of blocks.
 pub fn rows_needed(blocks: &[PlanBlock]) -> usize
-    ensures number { result ≡ rows_of (all_operations blocks.now) }
+    ensures number { result ≡ operations_rows (all_operations blocks.now) }
     ensures fits { result ≤ 2 ^ 32 }
 {
     let mut rows = 0usize;
@@ -96,7 +96,7 @@ fn width_at(operation: &Operation) -> usize
 
 /// The same of operations.
 fn width_among(operations: &[Operation]) -> usize
-    ensures { result ≡ width_of operations.now }
+    ensures { result ≡ operations_width operations.now }
 {
     let mut wide = 0usize;
     for operation in operations {
@@ -107,7 +107,7 @@ fn width_among(operations: &[Operation]) -> usize
 
 /// The same of the operations of blocks.
 pub fn width_needed(blocks: &[PlanBlock]) -> usize
-    ensures { result ≡ width_of (all_operations blocks.now) }
+    ensures { result ≡ operations_width (all_operations blocks.now) }
 {
     let mut wide = 0usize;
     for block in blocks {

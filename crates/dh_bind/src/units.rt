@@ -5,7 +5,7 @@ ghost use Rattle.dh_plan.specs.LegalSchedules.{is_product};
 ghost use Rattle.dh_plan.specs.Passes.{timing_seen};
 ghost use Rattle.dh_plan.specs.PlainPlans.{operation_count};
 ghost use Rattle.dh_plan.specs.SeenPlans.{plan_seen};
-ghost use Rattle.dh_bind.specs.Units.{AreCounted, BlockUnits, CountsUnit, counted_at};
+ghost use Rattle.dh_bind.specs.Units.{AreUnitNumbers, BlockUnits, CountsUnit, counted_at};
 
 use dh_base::{Items, NoMemory};
 use dh_plan::{Operation, OperationForm, Plan, Schedule};
@@ -125,7 +125,7 @@ fn push_units(
 /// The multipliers of a plan's operations under a schedule.
 pub fn units_of(alloc: Global, plan: &Plan, schedule: &Schedule) -> Result<Items<u64>, NoMemory>
     requires { length schedule.now.clock_of ≡ operation_count (plan_seen plan.now) }
-    ensures { IfOk result (λ units. AreCounted (plan_seen plan.now) (timing_seen schedule.now)
+    ensures { IfOk result (λ units. AreUnitNumbers (plan_seen plan.now) (timing_seen schedule.now)
         (length plan.now.blocks) units) }
 {
     let mut rest = schedule.clock_of.as_slice();

@@ -64,9 +64,9 @@ impl<'a> Model for Walker<'a> {
 }
 
 impl<'a> Walker<'a> {
-    ghost use Rattle.dh_bind.specs.Costs.{memory_at};
-    ghost use Rattle.dh_bind.specs.Standings.{ChargesBank, TakenBack, Keeps, IsBegun, log_marked};
-    ghost use Rattle.dh_bind.specs.Drafts.{PortsFit, uses_of};
+    ghost use Rattle.dh_bind.specs.Costs.{memory_of_access};
+    ghost use Rattle.dh_bind.specs.Standings.{ChargesBank, TakenBack, KeepsCostsAndPlan, IsBegun, log_marked};
+    ghost use Rattle.dh_bind.specs.Drafts.{PortsFit, draft_uses};
 
     /// A walk of which nothing is done yet.
     pub(crate) fn new(alloc: Global, plan: &'a Plan) -> Result<Walker<'a>, NoMemory>
@@ -93,7 +93,7 @@ impl<'a> Walker<'a> {
     /// The ports that were granted, for each operation.
     pub(crate) fn ports(self, alloc: Global) -> Result<Items<Items<(u32, u32)>>, NoMemory>
         requires { PortsFit self.draft }
-        ensures { IfOk result (λ all. all ≡ (uses_of self.entry.draft).ports) }
+        ensures { IfOk result (λ all. all ≡ (draft_uses self.entry.draft).ports) }
     {
         let Walker {
             binder,
@@ -108,7 +108,7 @@ impl<'a> Walker<'a> {
 
     /// The memory of an access, where an operation uses it.
     pub(crate) fn memory_of(&self, access: u32) -> Option<u32>
-        ensures memory { result ≡ memory_at self.now.costs.memories access }
+        ensures memory { result ≡ memory_of_access self.now.costs.memories access }
         ensures row { (memory : ℕ) → result ≡ Some memory
             → access < length self.now.costs.memories }
         ensures inside { (memory : ℕ) → result ≡ Some memory → memory < length self.now.ledgers }

@@ -3,8 +3,8 @@
 ghost use Rattle.std.specs.Prelude.{◌≡◌, ◌<◌, Some, length};
 ghost use Rattle.dh_tree.specs.Meets.{access as meets_access};
 ghost use Rattle.dh_plan.specs.SeenPlans.{meets_seen};
-ghost use Rattle.dh_bind.specs.Costs.{memory_at};
-ghost use Rattle.dh_bind.specs.Standings.{ChargesRow, Walks};
+ghost use Rattle.dh_bind.specs.Costs.{memory_of_access};
+ghost use Rattle.dh_bind.specs.Standings.{ChargesRow, WalksMeets};
 ghost use Rattle.dh_plan.specs.SeenPlans.{alls, ones};
 
 use crate::walker::{Stop, Walker};
@@ -15,7 +15,7 @@ use std::alloc::Global;
 fn charge_row(walker: &mut Walker, access: u32, memory: u32) -> Result<(), Stop>
     requires row { access < length walker.old.costs.memories }
     requires inside { memory < length walker.old.ledgers }
-    requires memory { memory_at walker.old.costs.memories access ≡ Some memory }
+    requires memory { memory_of_access walker.old.costs.memories access ≡ Some memory }
     ensures { ChargesRow access memory walker.old walker.new result }
 {
     for bank in 0..walker.width() {
@@ -26,7 +26,7 @@ fn charge_row(walker: &mut Walker, access: u32, memory: u32) -> Result<(), Stop>
 
 /// Grants an access the ports that it charges.
 fn charge(walker: &mut Walker, access: u32) -> Result<(), Stop>
-    ensures { Walks (meets_access access) walker.old walker.new result }
+    ensures { WalksMeets (meets_access access) walker.old walker.new result }
 {
     match walker.memory_of(access) {
         Some(memory) => {
@@ -42,7 +42,7 @@ fn charge(walker: &mut Walker, access: u32) -> Result<(), Stop>
 /// Walks parts, one behind the other.
 #[cycle(walk)]
 fn walk_all(walker: &mut Walker, alloc: Global, parts: &[Meets]) -> Result<(), Stop>
-    ensures { Walks (alls parts.now) walker.old walker.new result }
+    ensures { WalksMeets (alls parts.now) walker.old walker.new result }
 {
     for part in parts {
         walk(walker, alloc, part)?;
@@ -53,7 +53,7 @@ fn walk_all(walker: &mut Walker, alloc: Global, parts: &[Meets]) -> Result<(), S
 /// Walks parts of which no two meet: each from where they all begin.
 #[cycle(walk)]
 fn walk_one(walker: &mut Walker, alloc: Global, parts: &[Meets]) -> Result<(), Stop>
-    ensures { Walks (ones parts.now) walker.old walker.new result }
+    ensures { WalksMeets (ones parts.now) walker.old walker.new result }
 {
     let begun = walker.logged();
     let mut ends = Vec::new(alloc);
@@ -73,7 +73,7 @@ fn walk_one(walker: &mut Walker, alloc: Global, parts: &[Meets]) -> Result<(), S
 #[cycle(walk)]
 #[tactic(auto, using(dh_plan::proofs::SeenMeets::meets_are))]
 pub fn walk(walker: &mut Walker, alloc: Global, tree: &Meets) -> Result<(), Stop>
-    ensures { Walks (meets_seen tree.now) walker.old walker.new result }
+    ensures { WalksMeets (meets_seen tree.now) walker.old walker.new result }
 {
     match tree {
         Meets::Access { access } => charge(walker, *access),

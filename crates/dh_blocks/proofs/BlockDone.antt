@@ -41,12 +41,12 @@ use Rattle.dh_commands.specs.ShownVariables.{ArePlaced, IsSeen, register_in, see
 use Rattle.dh_commands.specs.Followed.{effect_of}
 use Rattle.dh_commands.specs.Undone.{IsChange, given_at}
 use Rattle.dh_commands.specs.Done.{StandsBeside}
-use Rattle.dh_blocks.specs.FoundAccesses.{Found, block_found, found, found_from, found_or}
+use Rattle.dh_blocks.specs.FoundAccesses.{Found, block_found, found, found_from, found_or_else}
 use Rattle.dh_laid.specs.LaidAccesses.{AreLaid}
 use Rattle.dh_blocks.specs.ChosenReads.{AreBare, chosen_reads}
-use Rattle.dh_blocks.specs.BlockGround.{AreWithin, IsGround}
+use Rattle.dh_blocks.specs.BlockGround.{FoundAreWithin, IsGround}
 use Rattle.dh_blocks.specs.BlockMade.{AreRising, AreSoundHere, DoEach, EachShares, IsBare, IsBlockMade, IsTop, SharesStand, arms_each, effect_begun, found_in, sets_made, step_of_block}
-use Rattle.dh_blocks.specs.NamedVariables.{IsNamed, IsNamedHere}
+use Rattle.dh_blocks.specs.NamedVariables.{IsNamedVariable, IsNamedHere}
 use Rattle.dh_blocks.specs.SlotsOfScene.{HoldsVariables, IsStartOf, placing_in, slots_in}
 use Rattle.dh_blocks.specs.SoundCommands.{IsOwnOf, SoundAction}
 use Rattle.dh_blocks.proofs.CommandsFollow.{Stage, found_long, may_assign}
@@ -145,7 +145,7 @@ module _ (scene : Scene) (around : Around) (plan : PlainPlan) (count block : ℕ
           above n m h = grind (arith, nat_tests)
 
       by : (block_found scene x around (arms_each scene around ds mid b rest) ds (effect_of scene x (paths_on x around) c.first c.command e) number ≡ Some f → (number < length old.accesses.touched.items) × (touched_in old.accesses number ≡ None))
-          → (o : Option Found) → found_from c.first (found scene x around d.arms c.first c.command e) number ≡ o → found_or o (block_found scene x around (arms_each scene around ds mid b rest) ds (effect_of scene x (paths_on x around) c.first c.command e) number) ≡ Some f
+          → (o : Option Found) → found_from c.first (found scene x around d.arms c.first c.command e) number ≡ o → found_or_else o (block_found scene x around (arms_each scene around ds mid b rest) ds (effect_of scene x (paths_on x around) c.first c.command e) number) ≡ Some f
           → (number < length old.accesses.touched.items) × (touched_in old.accesses number ≡ None)
       by rest None e h = rest h
       by rest (Some g) e h = here (nat_lt number c.first) refl g e
@@ -169,9 +169,9 @@ module _ (scene : Scene) (around : Around) (plan : PlainPlan) (count block : ℕ
 
     -- names in this step
     named_now : (touch : ℕ → Bool) (ds : List Located) → AllByRecursion (λ (c : Located). SoundAction scene around.levels.now plan.table (IsNamedHere scene around.levels.now plan.registers rounds touch) (IsSeen scene around.levels.now) c.command) ds
-        → AllByRecursion (λ (c : Located). SoundAction scene around.levels.now plan.table (IsNamed scene around.levels.now x variables touch) (IsSeen scene around.levels.now) c.command) ds
+        → AllByRecursion (λ (c : Located). SoundAction scene around.levels.now plan.table (IsNamedVariable scene around.levels.now x variables touch) (IsSeen scene around.levels.now) c.command) ds
     named_now touch ds s =
-        mapped scene around plan rounds done folds sound (IsNamedHere scene around.levels.now plan.registers rounds touch) (IsNamed scene around.levels.now x variables touch)
+        mapped scene around plan rounds done folds sound (IsNamedHere scene around.levels.now plan.registers rounds touch) (IsNamedVariable scene around.levels.now x variables touch)
         (named_here scene x rounds around top variables touch st.counted) ds s
 
     bare : AreBare find old.accesses
@@ -189,7 +189,7 @@ module _ (scene : Scene) (around : Around) (plan : PlainPlan) (count block : ℕ
     abbrev stands_first : StandsBeside scene around x reads old first_effect
     stands_first = stands_here scene around plan count block rounds old new (sets_made new.values.log.items new.values.current.items) made.put holds top registers memories variables st find bare
 
-    within_all : AreWithin find old.accesses
+    within_all : FoundAreWithin find old.accesses
     within_all number f is = (bare number f is).0
 
     stage : (touch : ℕ → Bool) → Stage scene x find old.accesses variables touch within_all start around (IsSeen scene around.levels.now)

@@ -31,7 +31,7 @@ use Rattle.dh_commands.specs.declared.buildings.Building.{Building}
 use Rattle.dh_commands.specs.LanesRun.{paths_counted, paths_on}
 use Rattle.dh_commands.specs.ShownVariables.{IsSeen, level_factors}
 use Rattle.dh_commands.specs.Followed.{Arms, effect_of}
-use Rattle.dh_blocks.specs.FoundAccesses.{Found, block_found, found, found_or}
+use Rattle.dh_blocks.specs.FoundAccesses.{Found, block_found, found, found_or_else}
 use Rattle.dh_blocks.specs.BlockGround.{AreFoundAt, SharesIn}
 use Rattle.dh_blocks.specs.BlockMade.{AreRising, DoEach, EachShares, arms_each}
 use Rattle.dh_blocks.specs.BlockTraced.{IsTraced, TellsWays}
@@ -110,7 +110,7 @@ module _ (scene : Scene) (x : BlockStep) (find : ℕ → Option Found) (around :
         knows_past scene x find around.levels.now (paths_counted around) in_block around round before gap (λ i. e.variables) passed knows in
         let own : AreFoundAt find c.first (found scene x around d.arms c.first c.command e) =
         λ i f is. finds (c.first + i) (above from c.first i rising.0)
-        ∙ ap (λ o. found_or o (block_found scene x around (arms_each scene around (cs ++ folds) mid new rest) (cs ++ folds) (effect_of scene x (paths_on x around) c.first c.command e) (c.first + i)))
+        ∙ ap (λ o. found_or_else o (block_found scene x around (arms_each scene around (cs ++ folds) mid new rest) (cs ++ folds) (effect_of scene x (paths_on x around) c.first c.command e) (c.first + i)))
         (own_found c.first (found scene x around d.arms c.first c.command e) i f is) in
         let w = walk_action scene x find around.levels.now (paths_counted around) in_block one_phase shares spread sized table Name ways around d.arms Folds round stands.number placed.depth placed.first (before ++ gap) c.first c.command e
         (record { levels_are = refl; long = refl }) stands.numbered stands.names simple.0 placed.behind placed.seen sound.0 d.shaped
@@ -122,7 +122,7 @@ module _ (scene : Scene) (x : BlockStep) (find : ℕ → Option Found) (around :
         found_long scene x table Name around d.arms around.levels.now Folds c.first c.command e sound.0 d.shaped in
         let finds_rest : (number : ℕ) → c.first + accesses_of c.command ≤ number → find number ≡ block_found scene x around (arms_each scene around (cs ++ folds) mid new rest) (cs ++ folds) (effect_of scene x (paths_on x around) c.first c.command e) number =
         λ number l. finds number (further from c.first (accesses_of c.command) number rising.0 l)
-        ∙ ap (λ o. found_or o (block_found scene x around (arms_each scene around (cs ++ folds) mid new rest) (cs ++ folds) (effect_of scene x (paths_on x around) c.first c.command e) number))
+        ∙ ap (λ o. found_or_else o (block_found scene x around (arms_each scene around (cs ++ folds) mid new rest) (cs ++ folds) (effect_of scene x (paths_on x around) c.first c.command e) number))
         (past_found c.first (found scene x around d.arms c.first c.command e) number (subst (λ (n : ℕ). c.first + n ≤ number) (sym long) l)) in (
           w.0,
           each_share cs ((before ++ gap) ++ of_located c) behind after (c.first + accesses_of c.command) mid new rest (effect_of scene x (paths_on x around) c.first c.command e)

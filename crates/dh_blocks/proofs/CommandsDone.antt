@@ -24,11 +24,11 @@ use Rattle.dh_commands.specs.ShownVariables.{IsSeen}
 use Rattle.dh_commands.specs.Followed.{Follows, Sets, effect_of}
 use Rattle.dh_commands.specs.Undone.{AreReady, Changes, HasRoom, IsChange, undone}
 use Rattle.dh_commands.specs.Done.{StandsBeside}
-use Rattle.dh_blocks.specs.FoundAccesses.{Found, block_found, found, found_from, found_or}
+use Rattle.dh_blocks.specs.FoundAccesses.{Found, block_found, found, found_from, found_or_else}
 use Rattle.dh_blocks.specs.ChosenReads.{chosen_reads}
-use Rattle.dh_blocks.specs.BlockGround.{AreFoundAt, AreWithin}
+use Rattle.dh_blocks.specs.BlockGround.{AreFoundAt, FoundAreWithin}
 use Rattle.dh_blocks.specs.BlockMade.{AreRising, DoEach, EachShares, arms_each}
-use Rattle.dh_blocks.specs.NamedVariables.{IsNamed}
+use Rattle.dh_blocks.specs.NamedVariables.{IsNamedVariable}
 use Rattle.dh_blocks.specs.SlotsOfScene.{IsStartOf}
 use Rattle.dh_blocks.specs.SoundCommands.{IsOwnOf, SoundAction}
 use Rattle.dh_blocks.proofs.CommandsFollow.{IsNear, Stage, follows, found_long, may_assign, near_commands}
@@ -123,7 +123,7 @@ pub goes_nowhere : (scene : Scene) (around : Around) (x : BlockStep) (find : ℕ
 goes_nowhere scene around x find before from old new h e rising finds sh fits begun ready stands =
     subst (λ (b : Building). StandsBeside scene around x (chosen_reads x find before) b e × HasChanged scene around old.values b.values) h (stands, changed_none scene around old.values)
 
-module _ (scene : Scene) (around : Around) (x : BlockStep) (find : ℕ → Option Found) (before : Accesses) (v0 : Variables) (touched : ℕ → Bool) (within_all : AreWithin find before)
+module _ (scene : Scene) (around : Around) (x : BlockStep) (find : ℕ → Option Found) (before : Accesses) (v0 : Variables) (touched : ℕ → Bool) (within_all : FoundAreWithin find before)
     (start : IsStartOf scene x) (paths : 0 < paths_counted around) where
   abbrev reads : StepReads
   reads = chosen_reads x find before
@@ -132,7 +132,7 @@ module _ (scene : Scene) (around : Around) (x : BlockStep) (find : ℕ → Optio
   Folds = IsSeen scene around.levels.now
 
   abbrev Sound : Action → Type 0
-  Sound a = SoundAction scene around.levels.now x.start.table (IsNamed scene around.levels.now x v0 touched) Folds a
+  Sound a = SoundAction scene around.levels.now x.start.table (IsNamedVariable scene around.levels.now x v0 touched) Folds a
 
   abbrev Standing : Type 0
   Standing = Stage scene x find before v0 touched within_all start around Folds
@@ -153,7 +153,7 @@ module _ (scene : Scene) (around : Around) (x : BlockStep) (find : ℕ → Optio
   }
     where
       seen : (entity : ℕ) → Sets scene a entity → IsSeen scene around.levels.now entity
-      seen entity sets = by (may_assign scene around.levels.now x.start.table (IsNamed scene around.levels.now x v0 touched) Folds entity 0 a no_commands s sets)
+      seen entity sets = by (may_assign scene around.levels.now x.start.table (IsNamedVariable scene around.levels.now x v0 touched) Folds entity 0 a no_commands s sets)
         where
           by : (IsOwnOf scene around.levels.now entity ⊎ Folds entity) ⊎ (any_assigns entity no_commands ≡ true) → IsSeen scene around.levels.now entity
           by (inl (inl own)) = own.seen
@@ -176,7 +176,7 @@ module _ (scene : Scene) (around : Around) (x : BlockStep) (find : ℕ → Optio
       let touches_rest : Touches (core_commands (known_in scene) cs) = λ i g. touches i (split i ∙ or_right _ _ g) in
       let own : AreFoundAt find c.first (found scene x around d.arms c.first c.command e) =
       λ i f is. finds (c.first + i) (above from c.first i rising.0)
-      ∙ ap (λ o. found_or o (block_found scene x around (arms_each scene around (cs ++ tail) mid new rest) (cs ++ tail) (effect_of scene x (paths_on x around) c.first c.command e) (c.first + i)))
+      ∙ ap (λ o. found_or_else o (block_found scene x around (arms_each scene around (cs ++ tail) mid new rest) (cs ++ tail) (effect_of scene x (paths_on x around) c.first c.command e) (c.first + i)))
       (own_found c.first (found scene x around d.arms c.first c.command e) i f is) in
       let premise : Follows scene x reads around d.arms c.first c.command e =
       follows scene x find before v0 touched within_all start around d.arms Folds c.first c.command e stage sound.0 d.shaped touches_one near own sh.0 in
@@ -184,10 +184,10 @@ module _ (scene : Scene) (around : Around) (x : BlockStep) (find : ℕ → Optio
       does.so x reads e (fits_before mid.draft new.draft x further fits) begun premise stands in
       let changed : HasChanged scene around old.values mid.values = seen_changes c.command old.values mid.values sound.0 (does.changes ready) in
       let long : length (found scene x around d.arms c.first c.command e) ≡ accesses_of c.command =
-      found_long scene x x.start.table (IsNamed scene around.levels.now x v0 touched) around d.arms around.levels.now Folds c.first c.command e sound.0 d.shaped in
+      found_long scene x x.start.table (IsNamedVariable scene around.levels.now x v0 touched) around d.arms around.levels.now Folds c.first c.command e sound.0 d.shaped in
       let finds_rest : (number : ℕ) → c.first + accesses_of c.command ≤ number → find number ≡ block_found scene x around (arms_each scene around (cs ++ tail) mid new rest) (cs ++ tail) (effect_of scene x (paths_on x around) c.first c.command e) number =
       λ number l. finds number (later from c.first (accesses_of c.command) number rising.0 l)
-      ∙ ap (λ o. found_or o (block_found scene x around (arms_each scene around (cs ++ tail) mid new rest) (cs ++ tail) (effect_of scene x (paths_on x around) c.first c.command e) number))
+      ∙ ap (λ o. found_or_else o (block_found scene x around (arms_each scene around (cs ++ tail) mid new rest) (cs ++ tail) (effect_of scene x (paths_on x around) c.first c.command e) number))
       (past_found c.first (found scene x around d.arms c.first c.command e) number (subst (λ (n : ℕ). c.first + n ≤ number) (sym long) l)) in
       let done = commands_done tail base cs (c.first + accesses_of c.command) mid new rest (effect_of scene x (paths_on x around) c.first c.command e) rising.1.1 sound.1 stage touches_rest
       (near_commands v0 touched x (paths_on x around) (core_action (known_in scene) c.first c.command no_commands) touches_one e near) finds_rest sh.1 fits (begun_later old.draft mid.draft x does.extends begun)

@@ -45,8 +45,8 @@ use Rattle.dh_commands.specs.ShownVariables.{AreBoundAt, ArePlaced, AreTargets, 
 use Rattle.dh_commands.specs.Followed.{Along, AreOwn, Arms, arms_of, arms_then, no_arms, Follows, FollowsAssigned, FollowsGroups, FollowsIndices, FollowsOther, FollowsPart, FollowsReduced, FollowsStored, FollowsTarget, FollowsView, KeepsDeep, KeepsDeepGroups, KeepsDeepOther, KeepsDeepPart, KeptDeep, FitGroups, FitOther, FitPart, FitArms, IsFollowed, IsFollowedBy, KeptWord, Sets, SetsOther, assign_run, effect_of, kept_run, memory_aimed, part_effect, reduced_term, store_run, term_in, test_out, test_run, tested, value_at, view_at_step}
 use Rattle.dh_blocks.specs.FoundAccesses.{Found, form_of_found, found, groups_found, idle_found, other_found, part_found, target_found, term_found, terms_found, variables_along, view_found, write_found}
 use Rattle.dh_blocks.specs.ChosenReads.{chosen_reads}
-use Rattle.dh_blocks.specs.BlockGround.{AreFoundAt, AreReadAt, AreShared, AreWithin, IsFoundAt, IsGround, SharesIn, SharesInForm, SharesInGroups, SharesInOther, SharesInPart, SharesInView, TargetShares}
-use Rattle.dh_blocks.specs.NamedVariables.{IsNamed}
+use Rattle.dh_blocks.specs.BlockGround.{AreFoundAt, AreReadAt, AreShared, FoundAreWithin, IsFoundAt, IsGround, SharesIn, SharesInForm, SharesInGroups, SharesInOther, SharesInPart, SharesInView, TargetShares}
+use Rattle.dh_blocks.specs.NamedVariables.{IsNamedVariable}
 use Rattle.dh_blocks.specs.SlotsOfScene.{IsStartOf}
 use Rattle.dh_blocks.specs.SoundTerms.{AreSound, IsSound, IsSoundTarget}
 use Rattle.dh_blocks.specs.SoundCommands.{CanAssign, CanHold, CanKeep, CanKeepFrom, IsOwnOf, SoundAction, SoundForm, SoundGroups, SoundOther, SoundPart, kind_aimed}
@@ -346,13 +346,13 @@ module _ (v0 : Variables) (touched : ℕ → Bool) where
           clash : (b : Bool) → b ≡ true → b ≡ false → ⊥
           clash b e f = cc
 
-module _ (scene : Scene) (x : BlockStep) (find : ℕ → Option Found) (before : Accesses) (v0 : Variables) (touched : ℕ → Bool) (within_all : AreWithin find before)
+module _ (scene : Scene) (x : BlockStep) (find : ℕ → Option Found) (before : Accesses) (v0 : Variables) (touched : ℕ → Bool) (within_all : FoundAreWithin find before)
     (start : IsStartOf scene x) where
   abbrev reads : StepReads
   reads = chosen_reads x find before
 
   abbrev Named : List Level → Ref → Kind → Type 0
-  Named levels = IsNamed scene levels x v0 touched
+  Named levels = IsNamedVariable scene levels x v0 touched
 
   abbrev SoundAt : List Level → (Folds : ℕ → Type 0) → Action → Type 0
   SoundAt levels Folds a = SoundAction scene levels x.start.table (Named levels) Folds a

@@ -21,7 +21,7 @@ use Rattle.dh_expressions.proofs.ListPlaces.{place_within, some_same, there}
 use Rattle.dh_commands.specs.Followed.{view_at_step}
 use Rattle.dh_blocks.specs.FoundAccesses.{Found}
 use Rattle.dh_laid.specs.LaidAccesses.{AreLaid, IsLaid, copy_in, place_named, access_standing_of}
-use Rattle.dh_blocks.specs.ChosenReads.{AreBare, chosen_reads, done_of, site_of, sites_to, standing_or_none}
+use Rattle.dh_blocks.specs.ChosenReads.{AreBare, chosen_reads, done_of, chosen_standing, sites_to, standing_or_none}
 
 sites_long : (named : List (FaultKind × Place)) (find : ℕ → Option Found) (a : Accesses) (n : ℕ) → length (sites_to named find a n) ≡ n
 sites_long named find a zero = refl
@@ -39,18 +39,18 @@ at_last : (xs : List AccessStanding) (y : AccessStanding) (i : ℕ) → i ≡ le
 at_last [] y i e = ap (λ j. slice_get (y ∷ []) j) e
 at_last (w ∷ xs) y i e = ap (λ j. slice_get (w ∷ (xs ++ y ∷ [])) j) e ∙ at_last xs y (length xs) refl
 
-site_is : (named : List (FaultKind × Place)) (find : ℕ → Option Found) (a : Accesses) (n i : ℕ) → i < n → slice_get (sites_to named find a n) i ≡ Some (site_of named (find i) (touched_in a i))
+site_is : (named : List (FaultKind × Place)) (find : ℕ → Option Found) (a : Accesses) (n i : ℕ) → i < n → slice_get (sites_to named find a n) i ≡ Some (chosen_standing named (find i) (touched_in a i))
 site_is named find a zero i within = absurd (none i within)
   where
     none : (m : ℕ) → m < 0 → ⊥
     none m h = omega (arith, h)
 site_is named find a (suc n) i within = by (λ l. site_is named find a n i l) (cases_lt i n)
   where
-    by : (i < n → slice_get (sites_to named find a n) i ≡ Some (site_of named (find i) (touched_in a i))) → (i < n) ⊎ (n ≤ i) → slice_get (sites_to named find a (suc n)) i ≡ Some (site_of named (find i) (touched_in a i))
+    by : (i < n → slice_get (sites_to named find a n) i ≡ Some (chosen_standing named (find i) (touched_in a i))) → (i < n) ⊎ (n ≤ i) → slice_get (sites_to named find a (suc n)) i ≡ Some (chosen_standing named (find i) (touched_in a i))
     by before (inl l) = in_front (sites_to named find a n) _ _ i (before l)
     by before (inr l) =
         let same : i ≡ n = omega (arith, l, within) in
-        at_last (sites_to named find a n) (site_of named (find n) (touched_in a n)) i (same ∙ sym (sites_long named find a n)) ∙ ap (λ m. Some (site_of named (find m) (touched_in a m))) (sym same)
+        at_last (sites_to named find a n) (chosen_standing named (find n) (touched_in a n)) i (same ∙ sym (sites_long named find a n)) ∙ ap (λ m. Some (chosen_standing named (find m) (touched_in a m))) (sym same)
 
 touched_within : (a : Accesses) (i : ℕ) (t : Touched) → touched_in a i ≡ Some t → i < length a.touched.items
 touched_within a i t e = by (slice_get a.touched.items i) refl e
@@ -153,7 +153,7 @@ knows_first x find before laid none bare variables = record {
     stands number t at s is None e =
         let here = site_is x.named find before (length before.touched.items) number (touched_within before number t at) in
         let same : access_standing_of x.named t ≡ s =
-        some_same (access_standing_of x.named t) s (sym (ap Some (ap (λ o. site_of x.named o (touched_in before number)) e ∙ ap (λ o. standing_or_none x.named o) at)) ∙ (sym here ∙ is)) in
+        some_same (access_standing_of x.named t) s (sym (ap Some (ap (λ o. chosen_standing x.named o (touched_in before number)) e ∙ ap (λ o. standing_or_none x.named o) at)) ∙ (sym here ∙ is)) in
         subst (λ (z : AccessStanding). IsTouched x z t) same (laid_touched x t (laid number t at))
 
 -- The end.

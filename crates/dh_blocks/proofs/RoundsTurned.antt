@@ -12,7 +12,7 @@ use Rattle.dh_meaning.specs.Effects.{Variables}
 use Rattle.dh_meaning.specs.Paths.{Path, all_copies, copies_in, outer_paths, paths_in}
 use Rattle.dh_meaning.specs.Runs.{inner_paths, iterator_value, last_copy}
 use Rattle.dh_plan.specs.Blocks.{is_on, kind_at}
-use Rattle.dh_plan.specs.Correspondence.{AreCounted, IsCounted, Round, paths_of_rounds, paths_within}
+use Rattle.dh_plan.specs.Correspondence.{AreCounted, IsCounted, Round, paths_of_rounds, paths_within, loops_round}
 use Rattle.dh_code.specs.Ranks.{IsPath, rank_of}
 use Rattle.dh_code.specs.Slots.{held_at}
 use Rattle.dh_code.proofs.PathsInOrder.{AreFrom, length_paths, paths_are, paths_snoc}
@@ -27,12 +27,9 @@ use Rattle.dh_expressions.specs.Levels.{copy_to, last_number, path_at}
 use Rattle.dh_expressions.proofs.ListPlaces.{some_same, there}
 use Rattle.dh_commands.specs.LanesRun.{is_on_at, path_if, path_in, paths_counted, paths_on, paths_to}
 use Rattle.dh_commands.specs.ShownVariables.{level_factors}
-use Rattle.dh_blocks.specs.NamedVariables.{IsNamed, IsNamedHere, IsOfRound, IsTurned, turn_shown}
+use Rattle.dh_blocks.specs.NamedVariables.{IsNamedVariable, IsNamedHere, IsOfRound, IsIteratorInTurn, turn_shown}
 use Rattle.dh_blocks.specs.BlockMade.{IsTop}
 use Rattle.dh_blocks.proofs.PathNumbers.{copy_in_path, numbered, rank_small}
-
-abbrev pub loops_of : List Round → List Turning
-loops_of rounds = map (λ (r : Round). r.loop) rounds
 
 -- Paths.
 
@@ -50,14 +47,14 @@ factors_first loop ls = by (nat_lt 1 loop.factor)
     by true = refl
     by false = refl
 
-within_is : (gs : List ℕ) (rounds : List Round) → paths_within (paths_in gs) rounds ≡ paths_in (gs ++ factors (loops_of rounds))
+within_is : (gs : List ℕ) (rounds : List Round) → paths_within (paths_in gs) rounds ≡ paths_in (gs ++ factors (loops_round rounds))
 within_is gs [] = ap paths_in (sym (append-nil gs))
 within_is gs (r ∷ rs) =
     ap (λ (ps : List Path). paths_within ps rs) (inner_is gs r.loop)
     ∙ (within_is (gs ++ factors (r.loop ∷ [])) rs
-    ∙ ap paths_in (append_assoc gs (factors (r.loop ∷ [])) (factors (loops_of rs)) ∙ ap (λ (l : List ℕ). gs ++ l) (sym (factors_first r.loop (loops_of rs)))))
+    ∙ ap paths_in (append_assoc gs (factors (r.loop ∷ [])) (factors (loops_round rs)) ∙ ap (λ (l : List ℕ). gs ++ l) (sym (factors_first r.loop (loops_round rs)))))
 
-pub rounds_paths : (rounds : List Round) → paths_of_rounds rounds ≡ paths_in (factors (loops_of rounds))
+pub rounds_paths : (rounds : List Round) → paths_of_rounds rounds ≡ paths_in (factors (loops_round rounds))
 rounds_paths rounds = within_is [] rounds
 
 -- the paths of a block are all of them, in order
@@ -129,14 +126,14 @@ module _ (x : BlockStep) (rounds : List Round) (around : Around) (top : IsTop ro
 -- Turns.
 
 counted_at : (gs : List ℕ) (rounds : List Round) (registers : List ℕ) (v : Variables) (j : ℕ) (r : Round) → AreCounted (paths_in gs) rounds registers v → slice_get rounds j ≡ Some r
-    → IsCounted (paths_in (gs ++ factors (loops_of (take (suc j) rounds)))) r registers v
+    → IsCounted (paths_in (gs ++ factors (loops_round (take (suc j) rounds)))) r registers v
 counted_at gs [] registers v j r c at = absurd (cc)
 counted_at gs (q ∷ rs) registers v zero r c at =
     subst (λ (ps : List Path). IsCounted ps r registers v) (inner_is gs r.loop ∙ ap (λ (l : Turning). paths_in (gs ++ factors (l ∷ []))) (ap (λ (p : Round). p.loop) (sym (some_same q r at))))
     (subst (λ (p : Round). IsCounted (inner_paths (paths_in gs) p.loop) p registers v) (some_same q r at) c.0)
 counted_at gs (q ∷ rs) registers v (suc j) r c at =
     subst (λ (l : List ℕ). IsCounted (paths_in l) r registers v)
-    (append_assoc gs (factors (q.loop ∷ [])) (factors (loops_of (take (suc j) rs))) ∙ ap (λ (l : List ℕ). gs ++ l) (sym (factors_first q.loop (loops_of (take (suc j) rs)))))
+    (append_assoc gs (factors (q.loop ∷ [])) (factors (loops_round (take (suc j) rs))) ∙ ap (λ (l : List ℕ). gs ++ l) (sym (factors_first q.loop (loops_round (take (suc j) rs)))))
     (counted_at (gs ++ factors (q.loop ∷ [])) rs registers v j r (subst (λ (ps : List Path). AreCounted ps rs registers v) (inner_is gs q.loop) c.1) at)
 
 -- a path stands among all of them at its rank
@@ -171,21 +168,21 @@ take_front : (xs ys : List ℕ) → take (length xs) (xs ++ ys) ≡ xs
 take_front [] ys = refl
 take_front (x ∷ xs) ys = ap (λ (l : List ℕ). x ∷ l) (take_front xs ys)
 
-first_loops : (rounds : List Round) (n : ℕ) → loops_of rounds ≡ loops_of (take n rounds) ++ loops_of (drop n rounds)
+first_loops : (rounds : List Round) (n : ℕ) → loops_round rounds ≡ loops_round (take n rounds) ++ loops_round (drop n rounds)
 first_loops [] zero = refl
 first_loops [] (suc n) = refl
 first_loops (r ∷ rs) zero = refl
 first_loops (r ∷ rs) (suc n) = ap (λ (l : List Turning). r.loop ∷ l) (first_loops rs n)
 
-first_factors : (rounds : List Round) (n : ℕ) → take (length (factors (loops_of (take n rounds)))) (factors (loops_of rounds)) ≡ factors (loops_of (take n rounds))
+first_factors : (rounds : List Round) (n : ℕ) → take (length (factors (loops_round (take n rounds)))) (factors (loops_round rounds)) ≡ factors (loops_round (take n rounds))
 first_factors rounds n =
-    ap (λ (l : List Turning). take (length (factors (loops_of (take n rounds)))) (factors l)) (first_loops rounds n)
-    ∙ (ap (λ (l : List ℕ). take (length (factors (loops_of (take n rounds)))) l) (factors_append (loops_of (take n rounds)) (loops_of (drop n rounds)))
-    ∙ take_front (factors (loops_of (take n rounds))) (factors (loops_of (drop n rounds))))
+    ap (λ (l : List Turning). take (length (factors (loops_round (take n rounds)))) (factors l)) (first_loops rounds n)
+    ∙ (ap (λ (l : List ℕ). take (length (factors (loops_round (take n rounds)))) l) (factors_append (loops_round (take n rounds)) (loops_round (drop n rounds)))
+    ∙ take_front (factors (loops_round (take n rounds))) (factors (loops_round (drop n rounds))))
 
 -- an unrolled loop has the last of the first factors
 last_factor : (rounds : List Round) (j : ℕ) (r : Round) → slice_get rounds j ≡ Some r → nat_lt 1 r.loop.factor ≡ true
-    → (n : ℕ) × ((length (factors (loops_of (take (suc j) rounds))) ≡ suc n) × (slice_get (factors (loops_of (take (suc j) rounds))) n ≡ Some r.loop.factor))
+    → (n : ℕ) × ((length (factors (loops_round (take (suc j) rounds))) ≡ suc n) × (slice_get (factors (loops_round (take (suc j) rounds))) n ≡ Some r.loop.factor))
 last_factor [] j r at many = absurd (cc)
 last_factor (q ∷ rs) zero r at many =
     subst (λ (p : Round). (n : ℕ) × ((length (factors (p.loop ∷ [])) ≡ suc n) × (slice_get (factors (p.loop ∷ [])) n ≡ Some r.loop.factor))) (sym (some_same q r at)) (0, (by (nat_lt 1 r.loop.factor) many, to (nat_lt 1 r.loop.factor) many))
@@ -201,8 +198,8 @@ last_factor (q ∷ rs) (suc j) r at many =
     let (n, (long, is)) = last_factor rs j r at many in (
       length (factors (q.loop ∷ [])) + n,
       (
-        ap length (factors_first q.loop (loops_of (take (suc j) rs))) ∙ (length-append (factors (q.loop ∷ [])) (factors (loops_of (take (suc j) rs))) ∙ sums (length (factors (q.loop ∷ []))) _ n long),
-        ap (λ (l : List ℕ). slice_get l (length (factors (q.loop ∷ [])) + n)) (factors_first q.loop (loops_of (take (suc j) rs))) ∙ (behind (factors (q.loop ∷ [])) (factors (loops_of (take (suc j) rs))) n ∙ is),
+        ap length (factors_first q.loop (loops_round (take (suc j) rs))) ∙ (length-append (factors (q.loop ∷ [])) (factors (loops_round (take (suc j) rs))) ∙ sums (length (factors (q.loop ∷ []))) _ n long),
+        ap (λ (l : List ℕ). slice_get l (length (factors (q.loop ∷ [])) + n)) (factors_first q.loop (loops_round (take (suc j) rs))) ∙ (behind (factors (q.loop ∷ [])) (factors (loops_round (take (suc j) rs))) n ∙ is),
       ),
     )
   where
@@ -236,7 +233,7 @@ module _ (scene : Scene) (x : BlockStep) (rounds : List Round) (around : Around)
     turn = slice_index x.start.registers h.round.counter
 
     abbrev first : List ℕ
-    first = factors (loops_of (take (suc h.index) rounds))
+    first = factors (loops_round (take (suc h.index) rounds))
 
     is_counted : IsCounted (paths_in first) h.round x.start.registers v0
     is_counted = counted_at [] rounds x.start.registers v0 h.index h.round counted h.there
@@ -339,7 +336,7 @@ module _ (scene : Scene) (x : BlockStep) (rounds : List Round) (around : Around)
         sums : (a b s t f g c d : ℕ) → a ≡ b → s ≡ t → f ≡ g → c ≡ d → a + s * f + c ≡ b + t * g + d
         sums a b s t f g c d e i j k = ap (λ n. n + s * f + c) e ∙ (ap (λ n. b + n * f + c) i ∙ (ap (λ n. b + t * n + c) j ∙ ap (λ n. b + t * g + n) k))
 
-    pub is_turned : IsTurned scene around.levels.now x v0 touched r k
+    pub is_turned : IsIteratorInTurn scene around.levels.now x v0 touched r k
     is_turned = record {
       loop = loop;
       turn = turn;
@@ -358,6 +355,6 @@ module _ (scene : Scene) (x : BlockStep) (rounds : List Round) (around : Around)
       shown = λ number within. shown_is number;
     }
 
-  pub named_here : (r : Ref) (k : Kind) → IsNamedHere scene around.levels.now x.start.kinds rounds touched r k → IsNamed scene around.levels.now x v0 touched r k
+  pub named_here : (r : Ref) (k : Kind) → IsNamedHere scene around.levels.now x.start.kinds rounds touched r k → IsNamedVariable scene around.levels.now x v0 touched r k
   named_here r k (inl p) = inl p
   named_here r k (inr h) = inr (is_turned r k h)

@@ -43,9 +43,9 @@ use Rattle.dh_commands.specs.LanesRun.{is_on_at, lane_of, path_in, paths_counted
 use Rattle.dh_commands.specs.ShownVariables.{ShowsVariables, depth_in, level_factors, register_in, seen_path}
 use Rattle.dh_commands.specs.Followed.{IsFollowed, view_at_step}
 use Rattle.dh_blocks.specs.FoundAccesses.{Found, read_found, term_found, terms_found}
-use Rattle.dh_blocks.specs.ChosenReads.{chosen_reads, done_of, led_on, site_of, sites_to, word_found}
-use Rattle.dh_blocks.specs.BlockGround.{AllFound, AreReadAt, AreWithin, IsGround, IsReadAt}
-use Rattle.dh_blocks.specs.NamedVariables.{IsNamed, IsTurned}
+use Rattle.dh_blocks.specs.ChosenReads.{chosen_reads, done_of, any_led_is_on, chosen_standing, sites_to, word_found}
+use Rattle.dh_blocks.specs.BlockGround.{AllFound, AreReadAt, FoundAreWithin, IsGround, IsReadAt}
+use Rattle.dh_blocks.specs.NamedVariables.{IsNamedVariable, IsIteratorInTurn}
 use Rattle.dh_blocks.specs.SlotsOfScene.{HasViews}
 use Rattle.dh_blocks.specs.SoundTerms.{AreSound, IsSound, IsSoundHidden, IsSoundWay, kept_name}
 use Rattle.dh_blocks.proofs.PathNumbers.{agree_leaders, leader_leads, leader_within, leaders_agree, number_is, numbered}
@@ -72,9 +72,9 @@ both_true : (a b : Bool) → a ≡ true → b ≡ true → (a && b) ≡ true
 both_true true b h i = i
 both_true false b h i = cc
 
-pub led_done : (x : BlockStep) (s : AccessStanding) (first n : ℕ) → led_on x s first n ≡ true → DoneBy x s.leader s.guards n first
+pub led_done : (x : BlockStep) (s : AccessStanding) (first n : ℕ) → any_led_is_on x s first n ≡ true → DoneBy x s.leader s.guards n first
 led_done x s first zero e = absurd (cc)
-led_done x s first (suc n) e = by (λ h. led_done x s first n h) (split_or (led_on x s first n) ((s.leader n == first) && is_on x.first x.words (guard_of s.guards n)) e)
+led_done x s first (suc n) e = by (λ h. led_done x s first n h) (split_or (any_led_is_on x s first n) ((s.leader n == first) && is_on x.first x.words (guard_of s.guards n)) e)
   where
     further : DoneBy x s.leader s.guards n first → DoneBy x s.leader s.guards (suc n) first
     further d = record { path = d.path; within = let w = d.within in omega (arith, w); leads = d.leads; on = d.on }
@@ -82,11 +82,11 @@ led_done x s first (suc n) e = by (λ h. led_done x s first n h) (split_or (led_
     here : (s.leader n == first) ≡ true × is_on x.first x.words (guard_of s.guards n) ≡ true → DoneBy x s.leader s.guards (suc n) first
     here h = record { path = n; within = omega arith; leads = eqb-true (s.leader n) first h.0; on = h.1 }
 
-    by : (led_on x s first n ≡ true → DoneBy x s.leader s.guards n first) → (led_on x s first n ≡ true) ⊎ (((s.leader n == first) && is_on x.first x.words (guard_of s.guards n)) ≡ true) → DoneBy x s.leader s.guards (suc n) first
+    by : (any_led_is_on x s first n ≡ true → DoneBy x s.leader s.guards n first) → (any_led_is_on x s first n ≡ true) ⊎ (((s.leader n == first) && is_on x.first x.words (guard_of s.guards n)) ≡ true) → DoneBy x s.leader s.guards (suc n) first
     by before (inl h) = further (before h)
     by before (inr h) = here (split_and (s.leader n == first) (is_on x.first x.words (guard_of s.guards n)) h)
 
-pub done_led : (x : BlockStep) (s : AccessStanding) (first n path : ℕ) → path < n → s.leader path ≡ first → is_on x.first x.words (guard_of s.guards path) ≡ true → led_on x s first n ≡ true
+pub done_led : (x : BlockStep) (s : AccessStanding) (first n path : ℕ) → path < n → s.leader path ≡ first → is_on x.first x.words (guard_of s.guards path) ≡ true → any_led_is_on x s first n ≡ true
 done_led x s first zero path within leads on = absurd (none path within)
   where
     none : (m : ℕ) → m < 0 → ⊥
@@ -103,9 +103,9 @@ done_led x s first (suc n) path within leads on = by (λ l. done_led x s first n
         by (inl l) h = inl l
         by (inr l) h = inr (omega (arith, l, h))
 
-    by : (path < n → led_on x s first n ≡ true) → (path < n) ⊎ (path ≡ n) → led_on x s first (suc n) ≡ true
-    by before (inl l) = either_true (led_on x s first n) _ (inl (before l))
-    by before (inr e) = either_true (led_on x s first n) _ (inr (both_true (s.leader n == first) _ (eq-eqb (s.leader n) first (ap s.leader (sym e) ∙ leads)) (ap (λ m. is_on x.first x.words (guard_of s.guards m)) (sym e) ∙ on)))
+    by : (path < n → any_led_is_on x s first n ≡ true) → (path < n) ⊎ (path ≡ n) → any_led_is_on x s first (suc n) ≡ true
+    by before (inl l) = either_true (any_led_is_on x s first n) _ (inl (before l))
+    by before (inr e) = either_true (any_led_is_on x s first n) _ (inr (both_true (s.leader n == first) _ (eq-eqb (s.leader n) first (ap s.leader (sym e) ∙ leads)) (ap (λ m. is_on x.first x.words (guard_of s.guards m)) (sym e) ∙ on)))
 
 -- Lists.
 
@@ -187,19 +187,19 @@ site_there x find a (suc n) own f within is = by (λ l. site_there x find a n ow
     last [] y i e = ap (λ j. slice_get (y ∷ []) j) e
     last (w ∷ xs) y i e = ap (λ j. slice_get (w ∷ (xs ++ y ∷ [])) j) e ∙ last xs y (length xs) refl
 
-    by : (own < n → slice_get (sites_to x.named find a n) own ≡ Some f.standing) → (own < n) ⊎ (n ≤ own) → slice_get (sites_to x.named find a n ++ site_of x.named (find n) (touched_in a n) ∷ []) own ≡ Some f.standing
+    by : (own < n → slice_get (sites_to x.named find a n) own ≡ Some f.standing) → (own < n) ⊎ (n ≤ own) → slice_get (sites_to x.named find a n ++ chosen_standing x.named (find n) (touched_in a n) ∷ []) own ≡ Some f.standing
     by before (inl l) = front (sites_to x.named find a n) _ f.standing own (before l)
     by before (inr l) =
         let same : own ≡ n = omega (arith, l, within) in
-        last (sites_to x.named find a n) (site_of x.named (find n) (touched_in a n)) own (same ∙ sym (long n))
-        ∙ ap Some (ap (λ o. site_of x.named o (touched_in a n)) (ap find (sym same) ∙ is))
+        last (sites_to x.named find a n) (chosen_standing x.named (find n) (touched_in a n)) own (same ∙ sym (long n))
+        ∙ ap Some (ap (λ o. chosen_standing x.named o (touched_in a n)) (ap find (sym same) ∙ is))
 
 -- At one path.
 module _ (scene : Scene) (around : Around) (x : BlockStep) (find : ℕ → Option Found) (before : Accesses) (V : ℕ → Variables) (v0 : Variables) (touched : ℕ → Bool)
-    (ground : IsGround scene around) (within_all : AreWithin find before) (views : HasViews scene x.start.views)
+    (ground : IsGround scene around) (within_all : FoundAreWithin find before) (views : HasViews scene x.start.views)
     (near : (i : ℕ) → i < paths_counted around → IsNearTo v0 touched (V i)) where
   abbrev Named : Ref → Kind → Type 0
-  Named = IsNamed scene around.levels.now x v0 touched
+  Named = IsNamedVariable scene around.levels.now x v0 touched
 
   abbrev Sound : Term → Type 0
   Sound = IsSound (known_in scene) x.start.table Named
@@ -241,7 +241,7 @@ module _ (scene : Scene) (around : Around) (x : BlockStep) (find : ℕ → Optio
   -- Names.
 
   -- an iterator has the value of its turn
-  iterator_is : (i : ℕ) → i < paths_counted around → (r : Ref) (k : Kind) (t : IsTurned scene around.levels.now x v0 touched r k)
+  iterator_is : (i : ℕ) → i < paths_counted around → (r : Ref) (k : Kind) (t : IsIteratorInTurn scene around.levels.now x v0 touched r k)
       → V i (entity_number r.entity) (take (depth_of (known_in scene) r) (path i)) ≡ pos (iterator_value t.loop t.turn (path i))
   iterator_is i h r k t =
       ap (λ o. V i (entity_number o) (take (depth_of (known_in scene) r) (path i))) t.is.entity
@@ -392,7 +392,7 @@ module _ (scene : Scene) (around : Around) (x : BlockStep) (find : ℕ → Optio
       by : (o : Option (Option ℕ)) → slice_get scene.shares.now m ≡ o → SourceMeans reads (source_at o m i ((own n place k memory form).standing.leader i)) (word n place k form i)
       by None e = tt
       by (Some None) e = (
-        ap (λ o. done_of x o ((own n place k memory form).standing.leader i)) is ∙ (ap (λ f. led_on x (own n place k memory form).standing f (paths_counted around)) itself ∙ led),
+        ap (λ o. done_of x o ((own n place k memory form).standing.leader i)) is ∙ (ap (λ f. any_led_is_on x (own n place k memory form).standing f (paths_counted around)) itself ∙ led),
         ap (λ o. word_found o ((own n place k memory form).standing.leader i)) is ∙ same,
       )
       by (Some (Some earlier)) e = shared earlier i e h led

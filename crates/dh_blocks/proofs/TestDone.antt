@@ -41,9 +41,9 @@ use Rattle.dh_commands.specs.Done.{Does, StandsBeside}
 use Rattle.dh_blocks.specs.FoundAccesses.{Found, found_from, term_found, variables_along}
 use Rattle.dh_laid.specs.LaidAccesses.{AreLaid}
 use Rattle.dh_blocks.specs.ChosenReads.{AreBare, chosen_reads}
-use Rattle.dh_blocks.specs.BlockGround.{AreFoundAt, AreWithin}
+use Rattle.dh_blocks.specs.BlockGround.{AreFoundAt, FoundAreWithin}
 use Rattle.dh_blocks.specs.BlockMade.{IsTop, effect_begun, step_of_block}
-use Rattle.dh_blocks.specs.NamedVariables.{IsNamed, IsNamedHere}
+use Rattle.dh_blocks.specs.NamedVariables.{IsNamedVariable, IsNamedHere}
 use Rattle.dh_commands.specs.Setting.{NoVariable}
 use Rattle.dh_blocks.specs.SlotsOfScene.{HoldsVariables, IsStartOf, placing_in, slots_in}
 use Rattle.dh_blocks.specs.SoundTerms.{IsSound}
@@ -203,7 +203,7 @@ module _ (scene : Scene) (around : Around) (plan : PlainPlan) (count block flag 
             above : (n m : ℕ) → nat_lt n m ≡ false → m ≤ n
             above n m h = grind (arith, nat_tests)
 
-    within_all : AreWithin find old.accesses
+    within_all : FoundAreWithin find old.accesses
     within_all number f is = (bare number f is).0
 
     fits : FitsStep x new.draft
@@ -218,9 +218,9 @@ module _ (scene : Scene) (around : Around) (plan : PlainPlan) (count block flag 
     stage : Stage scene x find old.accesses variables none_touched within_all start around (λ entity. ⊥)
     stage = record { ground = ground_here scene around plan count rounds holds top; placed = placed_here scene around plan count rounds holds top; folds = λ e none. absurd none }
 
-    sound_now : IsSound (known_in scene) x.start.table (IsNamed scene around.levels.now x variables none_touched) t
+    sound_now : IsSound (known_in scene) x.start.table (IsNamedVariable scene around.levels.now x variables none_touched) t
     sound_now =
-        term_mapped (known_in scene) plan.table (IsNamedHere scene around.levels.now plan.registers rounds none_touched) (IsNamed scene around.levels.now x variables none_touched)
+        term_mapped (known_in scene) plan.table (IsNamedHere scene around.levels.now plan.registers rounds none_touched) (IsNamedVariable scene around.levels.now x variables none_touched)
         (named_here scene x rounds around top variables none_touched st.counted) t sound.sound
 
     along : Along around x reads (IsFollowedBy scene around first t) (test_run scene x first t) first_effect (paths_counted around)
@@ -287,7 +287,7 @@ module _ (scene : Scene) (around : Around) (plan : PlainPlan) (count block flag 
             ∙ truth_bit word.bits (subst (λ k. word.bits < 2 ^ width_of k) (truth_kind.kind_is ∙ sound.kind_is) truth_kind.word.fits)
           where
             truth_kind : IsWordOf (kind_written t) word
-            truth_kind = value_word (begun_of x) variables (path_in around 0) (known_in scene) (IsNamed scene around.levels.now x variables none_touched) first t sound_now is
+            truth_kind = value_word (begun_of x) variables (path_in around 0) (known_in scene) (IsNamedVariable scene around.levels.now x variables none_touched) first t sound_now is
 
     -- At the end.
     abbrev after : List ℕ

@@ -42,8 +42,8 @@ IsFoundAt find number f = find number ≡ Some f
 abbrev pub AreFoundAt : (find : ℕ → Option Found) → (n : ℕ) → List Found → Type 0
 AreFoundAt find n fs = AllFound (IsFoundAt find) n fs
 
-abbrev pub AreWithin : (find : ℕ → Option Found) → Accesses → Type 0
-AreWithin find a = (number : ℕ) (f : Found) → find number ≡ Some f → number < length a.touched.items
+abbrev pub FoundAreWithin : (find : ℕ → Option Found) → Accesses → Type 0
+FoundAreWithin find a = (number : ℕ) (f : Found) → find number ≡ Some f → number < length a.touched.items
 
 module _ (scene : Scene) (x : BlockStep) (find : ℕ → Option Found) where
   -- where a read that shares an earlier one is done that one is, and means the same

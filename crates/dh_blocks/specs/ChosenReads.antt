@@ -16,14 +16,14 @@ use Rattle.dh_laid.specs.LaidAccesses.{place_named, access_standing_of}
 use Rattle.dh_blocks.specs.FoundAccesses.{Found}
 
 -- at one of the first paths that a path leads, so many, the guard holds
-abbrev pub led_on : BlockStep → AccessStanding → (first n : ℕ) → Bool
-led_on x s first zero = false
-led_on x s first (suc n) = led_on x s first n || ((s.leader n == first) && is_on x.first x.words (guard_of s.guards n))
+abbrev pub any_led_is_on : BlockStep → AccessStanding → (first n : ℕ) → Bool
+any_led_is_on x s first zero = false
+any_led_is_on x s first (suc n) = any_led_is_on x s first n || ((s.leader n == first) && is_on x.first x.words (guard_of s.guards n))
 
 -- a read is done at a path where one with its key has its guard on
 abbrev pub done_of : BlockStep → Option Found → (path : ℕ) → Bool
 done_of x None path = false
-done_of x (Some f) path = led_on x f.standing (f.standing.leader path) (length f.standing.guards)
+done_of x (Some f) path = any_led_is_on x f.standing (f.standing.leader path) (length f.standing.guards)
 
 abbrev pub word_found : Option Found → (path : ℕ) → Word
 word_found None path = no_word
@@ -40,13 +40,13 @@ standing_or_none named (Some t) = access_standing_of named t
 
 -- The choice.
 
-abbrev pub site_of : List (FaultKind × Place) → Option Found → Option Touched → AccessStanding
-site_of named None t = standing_or_none named t
-site_of named (Some f) t = f.standing
+abbrev pub chosen_standing : List (FaultKind × Place) → Option Found → Option Touched → AccessStanding
+chosen_standing named None t = standing_or_none named t
+chosen_standing named (Some f) t = f.standing
 
 abbrev pub sites_to : List (FaultKind × Place) → (found : ℕ → Option Found) → Accesses → (n : ℕ) → List AccessStanding
 sites_to named found a zero = []
-sites_to named found a (suc n) = sites_to named found a n ++ site_of named (found n) (touched_in a n) ∷ []
+sites_to named found a (suc n) = sites_to named found a n ++ chosen_standing named (found n) (touched_in a n) ∷ []
 
 abbrev pub chosen_reads : BlockStep → (found : ℕ → Option Found) → (before : Accesses) → StepReads
 chosen_reads x found before = record {

@@ -77,9 +77,9 @@ idle_found (suc n) = record { standing = record { place = record { line = 0; col
 abbrev pub found_from : (first : ℕ) → List Found → (number : ℕ) → Option Found
 found_from first fs number = if nat_lt number first then None else slice_get fs (number - first)
 
-abbrev pub found_or : Option Found → Option Found → Option Found
-found_or None g = g
-found_or (Some f) g = Some f
+abbrev pub found_or_else : Option Found → Option Found → Option Found
+found_or_else None g = g
+found_or_else (Some f) g = Some f
 
 -- In commands, along their run from an effect.
 module _ (scene : Scene) (x : BlockStep) where
@@ -143,4 +143,4 @@ module _ (scene : Scene) (x : BlockStep) where
   block_found around [] cs e number = None
   block_found around (arms ∷ rest) [] e number = None
   block_found around (arms ∷ rest) (c ∷ cs) e number =
-      found_or (found_from c.first (found around arms c.first c.command e) number) (block_found around rest cs (effect_of scene x (paths_on x around) c.first c.command e) number)
+      found_or_else (found_from c.first (found around arms c.first c.command e) number) (block_found around rest cs (effect_of scene x (paths_on x around) c.first c.command e) number)

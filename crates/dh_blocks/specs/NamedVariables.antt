@@ -33,7 +33,7 @@ turn_shown scene levels x c entity number =
     + (if nat_le c.factor 1 then 0 else last_number levels (held_at scene.held.now entity).depth number)
 
 -- the iterator of a loop in a turn, at the paths inside loops of these levels
-pub record IsTurned (scene : Scene) (levels : List Level) (x : BlockStep) (v0 : Variables) (touched : ℕ → Bool) (r : Ref) (k : Kind) : Type 0 where
+pub record IsIteratorInTurn (scene : Scene) (levels : List Level) (x : BlockStep) (v0 : Variables) (touched : ℕ → Bool) (r : Ref) (k : Kind) : Type 0 where
   pub loop : Turning
   pub turn : ℕ
   pub counter : Counter
@@ -45,15 +45,15 @@ pub record IsTurned (scene : Scene) (levels : List Level) (x : BlockStep) (v0 : 
   pub shown : (number : ℕ) → number < copies_in (level_factors levels) → turn_shown scene levels x counter (entity_number r.entity) number ≡ iterator_value loop turn (path_at levels number)
 
 -- a variable, which the block does not touch or which is another at each path
-pub record IsPlain (scene : Scene) (levels : List Level) (touched : ℕ → Bool) (r : Ref) (k : Kind) : Type 0 where
+pub record IsPlainVariable (scene : Scene) (levels : List Level) (touched : ℕ → Bool) (r : Ref) (k : Kind) : Type 0 where
   pub is : r.entity ≡ Some (entity_number r.entity)
   pub seen : IsSeen scene levels (entity_number r.entity)
   pub kind_is : (held_at scene.held.now (entity_number r.entity)).kind ≡ k
   pub binding : IsNoIterator (binding_in (known_in scene).bindings (entity_number r.entity))
   pub free : (touched (entity_number r.entity) ≡ false) ⊎ (length levels ≤ depth_in scene (entity_number r.entity))
 
-abbrev pub IsNamed : Scene → List Level → BlockStep → (v0 : Variables) → (touched : ℕ → Bool) → Ref → Kind → Type 0
-IsNamed scene levels x v0 touched r k = IsPlain scene levels touched r k ⊎ IsTurned scene levels x v0 touched r k
+abbrev pub IsNamedVariable : Scene → List Level → BlockStep → (v0 : Variables) → (touched : ℕ → Bool) → Ref → Kind → Type 0
+IsNamedVariable scene levels x v0 touched r k = IsPlainVariable scene levels touched r k ⊎ IsIteratorInTurn scene levels x v0 touched r k
 
 -- The same without the step: a variable that is seen, or the iterator of one of the loops round the block, whose counter
 -- is a register of the plan.
@@ -76,4 +76,4 @@ pub record IsOfRound (scene : Scene) (kinds : List Kind) (rounds : List Round) (
   pub kind_is : kind_at kinds round.counter ≡ Unsigned width
 
 abbrev pub IsNamedHere : Scene → List Level → (kinds : List Kind) → List Round → (touched : ℕ → Bool) → Ref → Kind → Type 0
-IsNamedHere scene levels kinds rounds touched r k = IsPlain scene levels touched r k ⊎ IsOfRound scene kinds rounds touched r k
+IsNamedHere scene levels kinds rounds touched r k = IsPlainVariable scene levels touched r k ⊎ IsOfRound scene kinds rounds touched r k

@@ -23,9 +23,9 @@ use Rattle.dh_control.specs.WayMoves.{way_of_decision}
 use Rattle.dh_build.specs.declared.building.Sizes.{Sizes}
 use Rattle.dh_build.specs.declared.joining.Joints.{Joints}
 use Rattle.dh_build.specs.BuiltNets.{IsBuilt, values_from, wires_of_control}
-use Rattle.dh_build.specs.BuiltParts.{IsOver, AreRegisters, net_widths}
+use Rattle.dh_build.specs.BuiltParts.{IsOver, AreNetRegisters, net_widths}
 use Rattle.dh_build.specs.DrivenUsers.{AreListed}
-use Rattle.dh_build.specs.NetJoints.{JointsAdded, IsJoined}
+use Rattle.dh_build.specs.NetJoints.{JointsAdded, IsNetOfCircuit}
 use Rattle.dh_build.proofs.ThreadsBuilt.{resolve_long}
 
 small_ones : (es : List MemEntry) → AllByRecursion IsMemory es → elements_in es ≤ most_elements → AllByRecursion IsSmallMemory es
@@ -41,7 +41,7 @@ initials_long ks way n a b further widths initials e f same =
     ap (λ (l : List ℕ). length l) e
     ∙ (ap (λ (m : ℕ). suc (suc (suc (suc m)))) (resolve_long ks way (replicate (length ks) 0) ∙ (length-replicate (length ks) 0 ∙ sym same)) ∙ sym (ap (λ (l : List ℕ). length l) f))
 
-pub net_joined : (plan : PlainPlan) (u : Uses) (states : List State) (first : Decision) (s : Sizes) (start d : PlainCircuit) (j : Joints) (net : Net) → IsOver start plan s → JointsAdded start d plan u states first s j → IsJoined d j net
+pub net_joined : (plan : PlainPlan) (u : Uses) (states : List State) (first : Decision) (s : Sizes) (start d : PlainCircuit) (j : Joints) (net : Net) → IsOver start plan s → JointsAdded start d plan u states first s j → IsNetOfCircuit d j net
     → IsBuilt plan u states first s net
 net_joined plan u states first s start d j net over h g = record {
   start = start;
@@ -56,7 +56,7 @@ net_joined plan u states first s start d j net over h g = record {
   cells_are = g.cells_are;
   fault_names = g.faults_are ∙ h.joints.fault_names;
   registers =
-      subst (λ (l : List Register). AreRegisters (net_widths s.clock_width s.state_width s.widths) (values_from plan (length states) (way_of_decision first)) (next_wires (wires_of_control h.made_of)) l) (sym g.registers_are) h.joints.registers;
+      subst (λ (l : List Register). AreNetRegisters (net_widths s.clock_width s.state_width s.widths) (values_from plan (length states) (way_of_decision first)) (next_wires (wires_of_control h.made_of)) l) (sym g.registers_are) h.joints.registers;
   drivers = subst (λ (l : List (List Driver)). AreListed (length (ports_of plan.table)) h.made_of.drivers l) (sym g.drivers_are) h.joints.drivers;
   tick_is = g.tick_is ∙ h.joints.tick_is;
   done_is = g.done_is ∙ h.joints.done_is;

@@ -51,7 +51,7 @@ use Rattle.dh_control.proofs.ListFacts.{all_back, at_index}
 use Rattle.dh_build.specs.declared.building.Parts.{Parts}
 use Rattle.dh_build.specs.declared.building.Sizes.{Sizes}
 use Rattle.dh_build.specs.BuiltNets.{IsBuilt, nexts_of, values_from}
-use Rattle.dh_build.specs.BuiltParts.{AreSizes, CanMake, net_widths}
+use Rattle.dh_build.specs.BuiltParts.{AreSizes, CanMakeNet, net_widths}
 use Rattle.dh_build.specs.DrivenUsers.{DrivesUser, plan_times}
 use Rattle.dh_build.proofs.PortsDriven.{DriveEach, picked_both, user_of_port}
 use Rattle.dh_build.proofs.WaysFit.{way_fits, way_within}
@@ -75,7 +75,7 @@ module _ (d : PlainCircuit) (plan : PlainPlan) (kinds : List Kind) (wires : List
   of_user (v ∷ vs) (x ∷ ds) h zero e at = (let same : x ≡ e = cc in (v, (inl refl, subst (λ (y : Driver). DrivesUser d plan kinds wires times v y) same h.0)))
   of_user (v ∷ vs) (x ∷ ds) h (suc k) e at = (let rest = of_user vs ds h.1 k e at in (rest.0, (inr rest.1.0, rest.1.1)))
 
-module _ (plan : PlainPlan) (u : Uses) (states : List State) (first : Decision) (s : Sizes) (net : Net) (can : CanMake plan u states) (sizes : AreSizes plan (length states) s) (straight : IsStraight (length states) (way_of_decision first))
+module _ (plan : PlainPlan) (u : Uses) (states : List State) (first : Decision) (s : Sizes) (net : Net) (can : CanMakeNet plan u states) (sizes : AreSizes plan (length states) s) (straight : IsStraight (length states) (way_of_decision first))
     (built : IsBuilt plan u states first s net) where
   abbrev p : Parts
   p = built.made_of

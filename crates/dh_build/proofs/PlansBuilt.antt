@@ -18,7 +18,7 @@ use Rattle.dh_control.specs.WayMoves.{way_of_decision}
 use Rattle.dh_control.specs.WiredNets.{IsStraight}
 use Rattle.dh_build.specs.declared.building.Sizes.{Sizes}
 use Rattle.dh_build.specs.BuiltNets.{IsBuilt, making_of}
-use Rattle.dh_build.specs.BuiltParts.{CanMake}
+use Rattle.dh_build.specs.BuiltParts.{CanMakeNet}
 use Rattle.dh_build.specs.BuiltPlans.{AreSizesOf, CanBuild, timing_of}
 use Rattle.dh_build.proofs.NetValid.{net_valid}
 use Rattle.dh_build.proofs.OneGroup.{one_group}
@@ -30,7 +30,7 @@ alone_is (g ∷ []) other long = refl
 alone_is (g ∷ h ∷ gs) other long = absurd (omega (arith, long))
 
 module _ (plan : PlainPlan) (g : Graph) (t : Timing) (u : Uses) (group : Group) (can : CanBuild plan g t u) (one : g.groups.items ≡ group ∷ []) where
-  pub can_make : CanMake plan u g.states.items
+  pub can_make : CanMakeNet plan u g.states.items
   can_make = record {
     formed = can.may.sound.formed;
     addressed = can.may.addressed;
@@ -71,8 +71,8 @@ module _ (plan : PlainPlan) (g : Graph) (t : Timing) (u : Uses) (can : CanBuild 
   one = alone_is g.groups.items other can.alone ∙ ap (λ (l : List Group). get_or l 0 other ∷ []) (sym groups_are)
 
   module _ (states : List State) (states_are : states ≡ g.states.items) where
-    pub can_make_as : CanMake plan u states
-    can_make_as = subst (λ (l : List State). CanMake plan u l) (sym states_are) (can_make plan g t u group can one)
+    pub can_make_as : CanMakeNet plan u states
+    can_make_as = subst (λ (l : List State). CanMakeNet plan u l) (sym states_are) (can_make plan g t u group can one)
 
     module _ (s : Sizes) (sizes : AreSizesOf plan (length states) t s) (net : Net) (built : IsBuilt plan u states (get_or groups 0 other).first s net) where
       sizes_here : AreSizesOf plan (length g.states.items) t s

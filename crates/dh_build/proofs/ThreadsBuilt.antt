@@ -17,7 +17,7 @@ use Rattle.dh_control.specs.ThreadHolds.{holds_thread, next_wires}
 use Rattle.dh_control.proofs.ThreadNets.{thread_net}
 use Rattle.dh_build.specs.declared.building.Sizes.{Sizes}
 use Rattle.dh_build.specs.BuiltNets.{IsBuilt, making_of, values_from, wires_of_control}
-use Rattle.dh_build.specs.BuiltParts.{AreSizes, CanMake, AreRegisters, net_widths}
+use Rattle.dh_build.specs.BuiltParts.{AreSizes, CanMakeNet, AreNetRegisters, net_widths}
 use Rattle.dh_build.proofs.NetWired.{net_wired}
 use Rattle.dh_build.proofs.OneGroup.{one_group}
 
@@ -41,7 +41,7 @@ resolve_long kinds (by_count counter last w v) registers =
 resolve_long kinds (to_fork fork ws) registers = refl
 resolve_long kinds to_end registers = refl
 
-module _ (plan : PlainPlan) (u : Uses) (g : Graph) (group : Group) (s : Sizes) (net : Net) (graph : IsGraphOf plan g) (one : g.groups.items ≡ group ∷ []) (can : CanMake plan u g.states.items) (sizes : AreSizes plan (length g.states.items) s)
+module _ (plan : PlainPlan) (u : Uses) (g : Graph) (group : Group) (s : Sizes) (net : Net) (graph : IsGraphOf plan g) (one : g.groups.items ≡ group ∷ []) (can : CanMakeNet plan u g.states.items) (sizes : AreSizes plan (length g.states.items) s)
     (built : IsBuilt plan u g.states.items group.first s net) (valid : IsValid net) where
   pub net_of_thread : IsNetOf (making_of plan graph.flow u s built.made_of.shown.wires) net (holds_thread (length graph.flow.states) (length plan.registers))
   net_of_thread =
@@ -61,7 +61,7 @@ module _ (plan : PlainPlan) (u : Uses) (g : Graph) (group : Group) (s : Sizes) (
         cells_are = built.cells_are;
         fault_names = built.fault_names;
         registers =
-            subst (λ (l : List ℕ). AreRegisters (net_widths s.clock_width s.state_width s.widths) l (next_wires (wires_of_control built.made_of)) net.registers)
+            subst (λ (l : List ℕ). AreNetRegisters (net_widths s.clock_width s.state_width s.widths) l (next_wires (wires_of_control built.made_of)) net.registers)
             (λ i. values_from plan (thread.count i) (thread.first_is i)) built.registers;
         drivers = built.drivers;
         tick_is = built.tick_is;

@@ -23,7 +23,7 @@ use Rattle.dh_control.specs.WayMoves.{spot_number, way_of_decision}
 use Rattle.dh_control.specs.WiredNets.{IsStraight, IsWired}
 use Rattle.dh_build.specs.declared.building.Parts.{Parts}
 use Rattle.dh_build.specs.declared.building.Sizes.{Sizes}
-use Rattle.dh_build.specs.BuiltParts.{net_widths, IsOver, AreSizes, CanMake, PartsAdded, AreRegisters}
+use Rattle.dh_build.specs.BuiltParts.{net_widths, IsOver, AreSizes, CanMakeNet, PartsAdded, AreNetRegisters}
 use Rattle.dh_build.specs.DrivenUsers.{AreListed}
 
 -- of what a net is made
@@ -57,7 +57,7 @@ pub record IsOfOneThread (plan : PlainPlan) (flow : Flow) : Type 0 where
 pub record NetMade (start d : PlainCircuit) (plan : PlainPlan) (flow : Flow) (u : Uses) (states : List State) (s : Sizes) (p : Parts) (net : Net) : Type 0 where
   pub over : IsOver start plan s
   pub sizes : AreSizes plan (length states) s
-  pub can : CanMake plan u states
+  pub can : CanMakeNet plan u states
   pub parts : PartsAdded start d plan u states s p
   pub settles : ValuationSettles d
   pub one_thread : IsOfOneThread plan flow
@@ -66,7 +66,7 @@ pub record NetMade (start d : PlainCircuit) (plan : PlainPlan) (flow : Flow) (u 
   pub table_is : net.table ≡ d.table
   pub cells_are : net.cells ≡ d.cells
   pub fault_names : net.faults ≡ plan.faults
-  pub registers : AreRegisters (net_widths s.clock_width s.state_width s.widths) (first_values plan flow) (next_wires (wires_of_control p)) net.registers
+  pub registers : AreNetRegisters (net_widths s.clock_width s.state_width s.widths) (first_values plan flow) (next_wires (wires_of_control p)) net.registers
   pub drivers : AreListed (length (ports_of plan.table)) p.drivers net.drivers
   pub tick_is : net.tick ≡ p.shown.own.tick
   pub done_is : net.done ≡ p.control.nexts.done
@@ -91,7 +91,7 @@ pub record IsBuilt (plan : PlainPlan) (u : Uses) (states : List State) (first : 
   pub table_is : net.table ≡ d.table
   pub cells_are : net.cells ≡ d.cells
   pub fault_names : net.faults ≡ plan.faults
-  pub registers : AreRegisters (net_widths s.clock_width s.state_width s.widths) (values_from plan (length states) (way_of_decision first)) (next_wires (wires_of_control made_of)) net.registers
+  pub registers : AreNetRegisters (net_widths s.clock_width s.state_width s.widths) (values_from plan (length states) (way_of_decision first)) (next_wires (wires_of_control made_of)) net.registers
   pub drivers : AreListed (length (ports_of plan.table)) made_of.drivers net.drivers
   pub tick_is : net.tick ≡ made_of.shown.own.tick
   pub done_is : net.done ≡ made_of.control.nexts.done

@@ -46,7 +46,7 @@ pub record AreSizes (plan : PlainPlan) (states : ℕ) (s : Sizes) : Type 0 where
   pub states_fit : HoldsStates s.state_width states
 
 -- what a plan of one thread has for its net
-pub record CanMake (plan : PlainPlan) (u : Uses) (states : List State) : Type 0 where
+pub record CanMakeNet (plan : PlainPlan) (u : Uses) (states : List State) : Type 0 where
   pub formed : IsFormed plan
   pub addressed : IsAddressed plan
   pub ports : ArePorts plan u
@@ -106,7 +106,7 @@ pub record PartsAdded (old new : PlainCircuit) (plan : PlainPlan) (u : Uses) (st
   pub drivers_added : DriversAdded second new plan u s p.shown p.control p.drivers
 
 -- registers of these widths, first values and next wires
-pub record AreRegisters (widths initials nexts : List ℕ) (registers : List Register) : Type 0 where
+pub record AreNetRegisters (widths initials nexts : List ℕ) (registers : List Register) : Type 0 where
   pub widths_are : map (λ r. r.width) registers ≡ widths
   pub initials_are : map (λ r. r.initial) registers ≡ initials
   pub nexts_are : map (λ r. r.next) registers ≡ nexts

@@ -14,13 +14,13 @@ use Rattle.dh_build.specs.declared.building.Parts.{Parts}
 use Rattle.dh_build.specs.declared.building.Sizes.{Sizes}
 use Rattle.dh_build.specs.declared.joining.Joints.{Joints}
 use Rattle.dh_build.specs.BuiltNets.{nexts_of, values_from}
-use Rattle.dh_build.specs.BuiltParts.{net_widths, AreRegisters, PartsAdded}
+use Rattle.dh_build.specs.BuiltParts.{net_widths, AreNetRegisters, PartsAdded}
 use Rattle.dh_build.specs.DrivenUsers.{AreListed}
 
 -- what the net of a plan has beside its cells, by the parts that were added to its circuit
 pub record AreJoints (plan : PlainPlan) (over : ℕ) (first : Decision) (s : Sizes) (p : Parts) (j : Joints) : Type 0 where
   pub fault_names : j.faults ≡ plan.faults
-  pub registers : AreRegisters (net_widths s.clock_width s.state_width s.widths) (values_from plan over (way_of_decision first)) (nexts_of p.control) j.registers
+  pub registers : AreNetRegisters (net_widths s.clock_width s.state_width s.widths) (values_from plan over (way_of_decision first)) (nexts_of p.control) j.registers
   pub drivers : AreListed (length (ports_of plan.table)) p.drivers j.drivers
   pub tick_is : j.tick ≡ p.shown.own.tick
   pub done_is : j.done ≡ p.control.nexts.done
@@ -33,7 +33,7 @@ pub record JointsAdded (old new : PlainCircuit) (plan : PlainPlan) (u : Uses) (s
   pub joints : AreJoints plan (length states) first s made_of j
 
 -- a net of the cells of a circuit, and of this
-pub record IsJoined (d : PlainCircuit) (j : Joints) (net : Net) : Type 0 where
+pub record IsNetOfCircuit (d : PlainCircuit) (j : Joints) (net : Net) : Type 0 where
   pub suit : SuitRegisters d
   pub settles : ValuationSettles d
   pub shifts : HasNarrowShifts d.cells

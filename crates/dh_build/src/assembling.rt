@@ -2,7 +2,7 @@
 
 ghost use Rattle.std.specs.Prelude.{◌≡◌, length, IfOk};
 ghost use Rattle.dh_build.specs.BuiltNets.{nexts_of};
-ghost use Rattle.dh_build.specs.BuiltParts.{AreRegisters};
+ghost use Rattle.dh_build.specs.BuiltParts.{AreNetRegisters};
 
 use dh_base::{Items, NoMemory};
 use dh_control::Control;
@@ -18,7 +18,7 @@ pub fn list_registers(
 ) -> Result<Items<Register>, NoMemory>
     requires initials { length initials.now ≡ length widths.now }
     requires nexts { length nexts.now ≡ length widths.now }
-    ensures { IfOk result (λ rs. AreRegisters widths.now initials.now nexts.now rs) }
+    ensures { IfOk result (λ rs. AreNetRegisters widths.now initials.now nexts.now rs) }
 {
     let mut registers = Items::new(alloc);
     for i in 0..widths.len() {

@@ -4,7 +4,7 @@ ghost use Rattle.std.specs.Prelude.{◌≡◌, ◌+◌, ◌%◌, ◌^◌, ◌≤
 ghost use Rattle.std.specs.List.{AllByRecursion};
 ghost use Rattle.dh_value.specs.Words.{IsKind};
 ghost use Rattle.dh_plan.specs.Blocks.{kind_at};
-ghost use Rattle.dh_build.specs.ThreadBegins.{IsCountedUp, LeadsTo, LeavesThese, begun_by};
+ghost use Rattle.dh_build.specs.ThreadBegins.{IsCountedUp, DecisionLeadsTo, LeavesThese, begun_by};
 
 use dh_base::NoMemory;
 use dh_plan::Decision;
@@ -66,7 +66,7 @@ fn count_up(kinds: &[Kind], registers: &mut Vec<u64>, counter: u64)
 /// the thread ends.
 #[tactic(auto, using(dh_control::proofs::DecisionForms::decisions_are))]
 pub fn begin(decision: &Decision, kinds: &[Kind], over: u64, registers: &mut Vec<u64>) -> u64
-    ensures state { LeadsTo kinds.now over decision.now registers.old.items result }
+    ensures state { DecisionLeadsTo kinds.now over decision.now registers.old.items result }
     ensures registers { LeavesThese kinds.now decision.now registers.old.items
         registers.new.items }
 {

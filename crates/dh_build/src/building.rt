@@ -5,7 +5,7 @@ ghost use Rattle.dh_plan.specs.Passes.{uses_seen};
 ghost use Rattle.dh_plan.specs.SeenPlans.{plan_seen};
 ghost use Rattle.dh_datapath.specs.BlockWires.{ShowsPlan};
 ghost use Rattle.dh_value.specs.Words.{IsWidth};
-ghost use Rattle.dh_build.specs.BuiltParts.{AreSizes, CanMake, DriversAdded, IsOver, IsTimed, OwnAdded, OwnShows, PartsAdded, ShownAdded};
+ghost use Rattle.dh_build.specs.BuiltParts.{AreSizes, CanMakeNet, DriversAdded, IsOver, IsTimed, OwnAdded, OwnShows, PartsAdded, ShownAdded};
 
 use crate::drivers::push_uses;
 use crate::memories::list_memories;
@@ -89,7 +89,7 @@ fn push_shown(
 ) -> Result<Shown, NoMemory>
     requires over { IsOver circuit.old (plan_seen plan.now) sizes.now }
     requires sizes { AreSizes (plan_seen plan.now) (length states.now) sizes.now }
-    requires can { CanMake (plan_seen plan.now) (uses_seen binding.now) states.now }
+    requires can { CanMakeNet (plan_seen plan.now) (uses_seen binding.now) states.now }
     ensures { IfOk result (λ shown. ShownAdded circuit.old circuit.new (plan_seen plan.now)
         (uses_seen binding.now) sizes.now shown) }
 {
@@ -110,7 +110,7 @@ fn push_drivers(
     control: &Control,
 ) -> Result<Items<Keyed<Driver>>, NoMemory>
     requires sizes { AreSizes (plan_seen plan.now) (length states.now) sizes.now }
-    requires can { CanMake (plan_seen plan.now) (uses_seen binding.now) states.now }
+    requires can { CanMakeNet (plan_seen plan.now) (uses_seen binding.now) states.now }
     requires clock { shown.now.own.clock_width ≡ sizes.now.clock_width }
     requires own { OwnShows circuit.old shown.now.own }
     requires plan_shown { ShowsPlan circuit.old (plan_seen plan.now) (uses_seen binding.now)
@@ -150,7 +150,7 @@ pub fn push_parts(
 ) -> Result<Parts, NoMemory>
     requires over { IsOver circuit.old (plan_seen plan.now) sizes.now }
     requires sizes { AreSizes (plan_seen plan.now) (length states.now) sizes.now }
-    requires can { CanMake (plan_seen plan.now) (uses_seen binding.now) states.now }
+    requires can { CanMakeNet (plan_seen plan.now) (uses_seen binding.now) states.now }
     ensures { IfOk result (λ parts. PartsAdded circuit.old circuit.new (plan_seen plan.now)
         (uses_seen binding.now) states.now sizes.now parts) }
 {

@@ -9,9 +9,9 @@ ghost use Rattle.dh_plan.specs.SeenPlans.{plan_seen};
 ghost use Rattle.dh_plan.specs.Passes.{uses_seen};
 ghost use Rattle.dh_control.specs.WayMoves.{way_of_decision};
 ghost use Rattle.dh_build.specs.BuiltNets.{IsBuilt, nexts_of, values_from};
-ghost use Rattle.dh_build.specs.BuiltParts.{AreRegisters, AreSizes, CanMake, IsOver, net_widths};
+ghost use Rattle.dh_build.specs.BuiltParts.{AreNetRegisters, AreSizes, CanMakeNet, IsOver, net_widths};
 ghost use Rattle.dh_build.specs.DrivenUsers.{AreListed};
-ghost use Rattle.dh_build.specs.NetJoints.{AreJoints, IsJoined, JointsAdded};
+ghost use Rattle.dh_build.specs.NetJoints.{AreJoints, IsNetOfCircuit, JointsAdded};
 
 use crate::assembling::{list_nexts, list_registers};
 use crate::beginning::list_initials;
@@ -56,7 +56,7 @@ pub fn net_registers(
     requires widths { sizes.now.widths ≡ map width_of plan.now.registers }
     requires state { length control.now.results.state ≡ 1 }
     requires news { length control.now.results.news ≡ length sizes.now.widths }
-    ensures { IfOk result (λ rs. AreRegisters
+    ensures { IfOk result (λ rs. AreNetRegisters
         (net_widths sizes.now.clock_width sizes.now.state_width sizes.now.widths)
         (values_from (plan_seen plan.now) over (way_of_decision first.now))
         (nexts_of control.now) rs) }
@@ -142,7 +142,7 @@ fn push_joints(
 ) -> Result<Joints, NoMemory>
     requires over { IsOver circuit.old (plan_seen plan.now) sizes.now }
     requires sizes { AreSizes (plan_seen plan.now) (length states.now) sizes.now }
-    requires can { CanMake (plan_seen plan.now) (uses_seen binding.now) states.now }
+    requires can { CanMakeNet (plan_seen plan.now) (uses_seen binding.now) states.now }
     ensures { IfOk result (λ joints. JointsAdded circuit.old circuit.new (plan_seen plan.now)
         (uses_seen binding.now) states.now first.now sizes.now joints) }
 {
@@ -152,7 +152,7 @@ fn push_joints(
 
 /// The net of a circuit and of what it has beside.
 fn join_net(circuit: Circuit, joints: Joints) -> Net
-    ensures { IsJoined circuit joints result }
+    ensures { IsNetOfCircuit circuit joints result }
 {
     let (table, cells) = circuit.into_parts();
     Net {
@@ -177,7 +177,7 @@ pub fn build_thread(
     sizes: &Sizes,
 ) -> Result<Net, NoMemory>
     requires sizes { AreSizes (plan_seen plan.now) (length states.now) sizes.now }
-    requires can { CanMake (plan_seen plan.now) (uses_seen binding.now) states.now }
+    requires can { CanMakeNet (plan_seen plan.now) (uses_seen binding.now) states.now }
     ensures { IfOk result (λ net. IsBuilt (plan_seen plan.now) (uses_seen binding.now) states.now
         first.now sizes.now net) }
 {

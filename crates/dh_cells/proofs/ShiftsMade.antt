@@ -18,7 +18,7 @@ use Rattle.dh_net.specs.Clock.{shifted, shifted_signed}
 use Rattle.dh_net.specs.declared.nets.Cell.{Cell}
 use Rattle.dh_net.specs.declared.nets.CellForm.TheVariants.{Const, ShrU, ShrS}
 use Rattle.dh_cells.specs.NarrowShifts.{IsBelow, cell_bits}
-use Rattle.dh_cells.specs.PlainCircuits.{PlainCircuit, IsMade, IsNext}
+use Rattle.dh_cells.specs.PlainCircuits.{PlainCircuit, IsWireOfForm, IsNext}
 use Rattle.dh_cells.specs.Settled.{Signals, shown, IsSettled, IsWire, IsAmount, Adds}
 use Rattle.dh_cells.specs.ShownValues.{form_shown, number_shown, operator_shown, signs_shown}
 use Rattle.dh_cells.proofs.CellsAppended.{wire_stays}
@@ -90,7 +90,7 @@ shift_next d a b w there amount below = record {
   shifts = below;
 }
 
-pub signs_next : (d e : PlainCircuit) (a b w : ℕ) (value : Signals → ℕ) → IsWire d a w → Adds d e b 6 value → IsMade e b 6 (Const (w - 1)) → IsNext e w (ShrS a b)
+pub signs_next : (d e : PlainCircuit) (a b w : ℕ) (value : Signals → ℕ) → IsWire d a w → Adds d e b 6 value → IsWireOfForm e b 6 (Const (w - 1)) → IsNext e w (ShrS a b)
 signs_next d e a b w value there amount made =
     let least = there.least in
     let less : w - 1 < w = omega (arith, least) in

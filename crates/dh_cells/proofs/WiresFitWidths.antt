@@ -11,11 +11,12 @@ use Rattle.dh_net.specs.Clock.{State}
 use Rattle.dh_net.specs.Laws.{FitsNet}
 use Rattle.dh_net.proofs.Valuations.{FitBelow, form_fits, below_suc}
 use Rattle.dh_tree.specs.declared.tables.MemEntry.{MemEntry}
-use Rattle.dh_cells.specs.PlainCircuits.{AddsAtMost, PlainCircuit, circuit_of, one_cell, with_cell, blank_register, blank_registers, AreCells, IsCircuit, IsMade, IsNext}
+use Rattle.dh_cells.specs.PlainCircuits.{AddsAtMost, PlainCircuit, circuit_of, with_cell, blank_register, blank_registers, AreCells, IsCircuit, IsWireOfForm, IsNext}
 use Rattle.dh_cells.specs.Settled.{Signals, IsSettled, Adds}
 use Rattle.dh_cells.specs.ShownValues.{form_shown}
 use Rattle.dh_cells.proofs.CellsAppended.{get_last, measured_by_fit, measured_later, value_later, cells_more, grows_one, grows_none}
 use Rattle.dh_cells.proofs.NarrowCells.{circuit_more}
+use Rattle.dh_net.specs.Parts.{one_cell}
 
 -- the circuit as a net without drivers
 abbrev net_of : PlainCircuit → Net
@@ -130,14 +131,14 @@ cell_found d table widths cells list wire width form cell view all same inside i
 
 -- and it was made
 pub made_found : (d : PlainCircuit) (table : List MemEntry) (widths : List ℕ) (cells list : List Cell) (wire width : ℕ) (form : CellForm) (cell : Cell)
-    → circuit_of table widths cells ≡ d → list ≡ cells → wire < length list → cell ≡ get_or list wire cell → cell ≡ one_cell width form → IsMade d wire width form
+    → circuit_of table widths cells ≡ d → list ≡ cells → wire < length list → cell ≡ get_or list wire cell → cell ≡ one_cell width form → IsWireOfForm d wire width form
 made_found d table widths cells list wire width form cell view same inside is found =
     let at : slice_get list wire ≡ Some cell = slice_get_read list _ wire cell refl inside is in
-    subst (λ (y : PlainCircuit). IsMade y wire width form) view (ap (λ (l : List Cell). slice_get l wire) (sym same) ∙ (at ∙ ap (λ (y : Cell). Some y) found))
+    subst (λ (y : PlainCircuit). IsWireOfForm y wire width form) view (ap (λ (l : List Cell). slice_get l wire) (sym same) ∙ (at ∙ ap (λ (y : Cell). Some y) found))
 
 -- so was the cell that was appended
 pub made_push : (table : List MemEntry) (widths : List ℕ) (cells new : List Cell) (wire width : ℕ) (form : CellForm) → new ≡ cells ++ one_cell width form ∷ [] → wire ≡ length cells
-    → IsMade (circuit_of table widths new) wire width form
+    → IsWireOfForm (circuit_of table widths new) wire width form
 made_push table widths cells new wire width form more last =
     ap (λ (n : ℕ). slice_get new n) last ∙ (ap (λ (l : List Cell). slice_get l (length cells)) more ∙ get_last cells (one_cell width form))
 

@@ -16,11 +16,11 @@ AreTested d [] width = Unit {0}
 AreTested d (t ∷ ts) width = IsTested d t width × AreTested d ts width
 
 -- this one shows what the first of those does, whatever is taken where none shows 1
-abbrev pub StandsFor : Signals → (found : Tested) → (tests : List Tested) → Type 0
-StandsFor x found tests = (default : ℕ) → first_of x (found ∷ []) default ≡ first_of x tests default
+abbrev pub StandsForTests : Signals → (found : Tested) → (tests : List Tested) → Type 0
+StandsForTests x found tests = (default : ℕ) → first_of x (found ∷ []) default ≡ first_of x tests default
 
 -- cells were added for a test that stands for all of these
 pub record FindsFirst (old new : PlainCircuit) (width : ℕ) (tests : List Tested) (found : Tested) : Type 0 where
   pub grows : Grows old new
   pub there : IsTested new found width
-  pub stands : (x : Signals) → IsSettled new x → StandsFor x found tests
+  pub stands : (x : Signals) → IsSettled new x → StandsForTests x found tests

@@ -7,6 +7,7 @@ use Rattle.dh_net.specs.declared.nets.Cell.{Cell}
 use Rattle.dh_net.specs.declared.nets.CellForm.{CellForm}
 use Rattle.dh_net.specs.declared.nets.Register.{Register}
 use Rattle.dh_cells.specs.NarrowShifts.{ShiftsLess, HasNarrowShifts}
+use Rattle.dh_net.specs.Parts.{one_cell}
 
 -- the memories, the widths of the registers, and the cells so far
 pub record PlainCircuit : Type 0 where
@@ -16,9 +17,6 @@ pub record PlainCircuit : Type 0 where
 
 abbrev pub circuit_of : List MemEntry → List ℕ → List Cell → PlainCircuit
 circuit_of table widths cells = record { table = table; widths = widths; cells = cells }
-
-abbrev pub one_cell : (width : ℕ) → CellForm → Cell
-one_cell width form = record { width = width; form = form }
 
 -- the circuit with one cell more
 abbrev pub with_cell : PlainCircuit → Cell → PlainCircuit
@@ -36,8 +34,8 @@ abbrev pub AreCells : PlainCircuit → Type 0
 AreCells d = (i : ℕ) (c : Cell) → slice_get d.cells i ≡ Some c → IsCell d.table (blank_registers d.widths) d.cells i c
 
 -- the wire is that of a cell of this width and form
-abbrev pub IsMade : PlainCircuit → (wire width : ℕ) → CellForm → Type 0
-IsMade d wire width form = slice_get d.cells wire ≡ Some (one_cell width form)
+abbrev pub IsWireOfForm : PlainCircuit → (wire width : ℕ) → CellForm → Type 0
+IsWireOfForm d wire width form = slice_get d.cells wire ≡ Some (one_cell width form)
 
 -- the circuit is as it was, or has a cell of this width and form more, and nothing else
 pub record AddsAtMost (old new : PlainCircuit) (width : ℕ) (form : CellForm) : Type 0 where

@@ -32,8 +32,8 @@ abbrev pub register_shown : (register : ℕ) → Signals → ℕ
 register_shown register = λ x. slice_index x.registers register
 
 -- the datum that a port of a bank holds
-abbrev pub held_shown : List MemEntry → (memory bank port : ℕ) → Signals → ℕ
-held_shown table memory bank port = λ x. slice_index x.held (port_number table memory bank port)
+abbrev pub held_datum_shown : List MemEntry → (memory bank port : ℕ) → Signals → ℕ
+held_datum_shown table memory bank port = λ x. slice_index x.held (port_number table memory bank port)
 
 -- Truths, each on one bit.
 

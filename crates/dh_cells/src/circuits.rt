@@ -4,10 +4,10 @@ ghost use Rattle.std.specs.Prelude.{◌≡◌, [], ◌^◌, ◌<◌, ◌≤◌, 
 ghost use Rattle.dh_net.specs.Valid.{IsPort};
 ghost use Rattle.dh_value.specs.Words.{IsWidth};
 ghost use Rattle.dh_cells.specs.NarrowShifts.{HasNarrowShifts, IsBelow, constant_at, form_bits};
-ghost use Rattle.dh_cells.specs.PlainCircuits.{AddsAtMost, IsMade, IsNext, SuitRegisters, circuit_of};
+ghost use Rattle.dh_cells.specs.PlainCircuits.{AddsAtMost, IsWireOfForm, IsNext, SuitRegisters, circuit_of};
 ghost use Rattle.dh_cells.specs.Settled.{Adds, IsSettled, IsWire, Signals, ValuationSettles, WireAdded, shown};
 ghost use Rattle.dh_cells.specs.SoughtCells.{IfMade};
-ghost use Rattle.dh_cells.specs.ShownValues.{form_shown, held_shown, number_shown, register_shown, signs_shown};
+ghost use Rattle.dh_cells.specs.ShownValues.{form_shown, held_datum_shown, number_shown, register_shown, signs_shown};
 
 use crate::chaining::{Chains, Sought, greatest_taken, other_taken};
 use dh_base::{Items, NoMemory};
@@ -109,7 +109,7 @@ impl Circuit {
     pub fn push(&mut self, width: u8, form: CellForm) -> Result<u64, NoMemory>
         requires { IsNext self.old width form }
         ensures shows { WireAdded result self.old self.new width (form_shown self.old width form) }
-        ensures made { IfOk result (λ wire. IsMade self.new wire width form) }
+        ensures made { IfOk result (λ wire. IsWireOfForm self.new wire width form) }
         ensures adds { OnOk result (AddsAtMost self.old self.new width form) }
     {
         let cell = Cell { width, form };
@@ -124,7 +124,7 @@ impl Circuit {
         requires { IsNext self.old cell.width cell.form }
         ensures shows { WireAdded result self.old self.new cell.width
             (form_shown self.old cell.width cell.form) }
-        ensures made { IfOk result (λ wire. IsMade self.new wire cell.width cell.form) }
+        ensures made { IfOk result (λ wire. IsWireOfForm self.new wire cell.width cell.form) }
         ensures adds { OnOk result (AddsAtMost self.old self.new cell.width cell.form) }
     {
         match self.seek(taken, cell) {
@@ -139,7 +139,7 @@ impl Circuit {
         requires { IsNext self.old cell.width cell.form }
         ensures shows { WireAdded result self.old self.new cell.width
             (form_shown self.old cell.width cell.form) }
-        ensures made { IfOk result (λ wire. IsMade self.new wire cell.width cell.form) }
+        ensures made { IfOk result (λ wire. IsWireOfForm self.new wire cell.width cell.form) }
         ensures adds { OnOk result (AddsAtMost self.old self.new cell.width cell.form) }
     {
         let Some(taken) = other_taken(cell.form) else {
@@ -157,7 +157,7 @@ impl Circuit {
         requires { IsNext self.old cell.width cell.form }
         ensures shows { WireAdded result self.old self.new cell.width
             (form_shown self.old cell.width cell.form) }
-        ensures made { IfOk result (λ wire. IsMade self.new wire cell.width cell.form) }
+        ensures made { IfOk result (λ wire. IsWireOfForm self.new wire cell.width cell.form) }
         ensures adds { OnOk result (AddsAtMost self.old self.new cell.width cell.form) }
     {
         match self.find(cell) {
@@ -170,7 +170,7 @@ impl Circuit {
     fn is_at(&self, wire: u64, cell: Cell) -> bool
         ensures shows { IsTrue result → Adds self.now self.now wire cell.width
             (form_shown self.now cell.width cell.form) }
-        ensures made { IsTrue result → IsMade self.now wire cell.width cell.form }
+        ensures made { IsTrue result → IsWireOfForm self.now wire cell.width cell.form }
     {
         let Some(found) = self.cells.as_slice().get(wire as usize) else {
             return false;
@@ -182,7 +182,7 @@ impl Circuit {
     fn seek(&self, taken: u64, cell: Cell) -> Sought
         ensures shows { IfMade result (λ wire. Adds self.now self.now wire cell.width
             (form_shown self.now cell.width cell.form)) }
-        ensures made { IfMade result (λ wire. IsMade self.now wire cell.width cell.form) }
+        ensures made { IfMade result (λ wire. IsWireOfForm self.now wire cell.width cell.form) }
     {
         let mut next = self.chains.latest(taken);
         for _ in 0..LONGEST_CHAIN {
@@ -201,7 +201,7 @@ impl Circuit {
     fn find(&self, cell: Cell) -> Option<u64>
         ensures shows { IfSome result (λ wire. Adds self.now self.now wire cell.width
             (form_shown self.now cell.width cell.form)) }
-        ensures made { IfSome result (λ wire. IsMade self.now wire cell.width cell.form) }
+        ensures made { IfSome result (λ wire. IsWireOfForm self.now wire cell.width cell.form) }
     {
         let wire = *self.made.get(&cell)?;
         if self.is_at(wire, cell) {
@@ -216,7 +216,7 @@ impl Circuit {
         requires { IsNext self.old cell.width cell.form }
         ensures shows { WireAdded result self.old self.new cell.width
             (form_shown self.old cell.width cell.form) }
-        ensures made { IfOk result (λ wire. IsMade self.new wire cell.width cell.form) }
+        ensures made { IfOk result (λ wire. IsWireOfForm self.new wire cell.width cell.form) }
         ensures adds { OnOk result (AddsAtMost self.old self.new cell.width cell.form) }
     {
         let wire = self.cells.len() as u64;
@@ -230,7 +230,7 @@ impl Circuit {
         requires { IsNext self.old cell.width cell.form }
         ensures shows { WireAdded result self.old self.new cell.width
             (form_shown self.old cell.width cell.form) }
-        ensures made { IfOk result (λ wire. IsMade self.new wire cell.width cell.form) }
+        ensures made { IfOk result (λ wire. IsWireOfForm self.new wire cell.width cell.form) }
         ensures adds { OnOk result (AddsAtMost self.old self.new cell.width cell.form) }
     {
         let wire = self.cells.len() as u64;
@@ -303,7 +303,7 @@ impl Circuit {
         requires width { IsWidth width }
         requires there { IsPort self.old.table memory bank port width }
         ensures { WireAdded result self.old self.new width
-            (held_shown self.old.table memory bank port) }
+            (held_datum_shown self.old.table memory bank port) }
     {
         self.push(width, CellForm::Data { memory, bank, port })
     }

@@ -13,22 +13,22 @@ use Rattle.dh_meaning.specs.CoreOf.{core_of}
 use Rattle.dh_sound.specs.KeptPorts.{IsNeverStuck}
 use Rattle.dh_sound.specs.Standing.{BlocksKeepPorts}
 use Rattle.dh_check.specs.declared.checking.CheckFault.{CheckFault}
-use Rattle.dh_check.specs.Acceptance.{IsSound}
-use Rattle.dh_check.specs.Ready.{of_pass, GoesOn, TellsText}
+use Rattle.dh_check.specs.Acceptance.{IsSoundProgram}
+use Rattle.dh_check.specs.Ready.{of_pass, CheckGoesOn, TellsText}
 use Rattle.dh_check.specs.Verdicts.{accepts, refuses, IsVerdict, FaultTells, ChecksWithoutPorts}
 
-pub accepted_by : (text : List ℕ) (p a : Program) → a ≡ p → GoesOn (λ ports v. IsVerdict ports text v) p → KeepsPortRules p
+pub accepted_by : (text : List ℕ) (p a : Program) → a ≡ p → CheckGoesOn (λ ports v. IsVerdict ports text v) p → KeepsPortRules p
     → IsVerdict true text (accepts a)
 accepted_by text p a same goes keeps =
     subst (λ (x : Program). IsVerdict true text (accepts x)) (sym same) (goes true (accepts p) (inr (keeps, refl)))
 
-pub refused_by : (text : List ℕ) (p : Program) (e : PassFault) → GoesOn (λ ports v. IsVerdict ports text v) p
+pub refused_by : (text : List ℕ) (p : Program) (e : PassFault) → CheckGoesOn (λ ports v. IsVerdict ports text v) p
     → TellsPorts p (Err e) → FaultTells (IsVerdict true text) (of_pass e)
 refused_by text p pass.NoMemory goes h = tt
 refused_by text p (pass.Refused rule place) goes first = goes true (refuses rule place) (inl (breach rule place, (first, refl)))
 
-pub sound_still : (p a : Program) → a ≡ p → BlocksKeepPorts (core_of p) → IsNeverStuck p → IsSound a
-sound_still p a same blocks never_stuck = subst (λ (x : Program). IsSound x) (sym same) (record { blocks = blocks; never_stuck = never_stuck })
+pub sound_still : (p a : Program) → a ≡ p → BlocksKeepPorts (core_of p) → IsNeverStuck p → IsSoundProgram a
+sound_still p a same blocks never_stuck = subst (λ (x : Program). IsSoundProgram x) (sym same) (record { blocks = blocks; never_stuck = never_stuck })
 
 pub without_ports : (text : List ℕ) (r : Result Typed CheckFault) → TellsText text r → ChecksWithoutPorts text r
 without_ports text (Ok t) h = (h.1 false (accepts (program_seen t)) refl, h.0)

@@ -32,7 +32,7 @@ use Rattle.dh_tree.proofs.TypedTexts as typing_texts
 use Rattle.dh_viewing.proofs.KeptViews.{first_none, second_none}
 use Rattle.dh_check.specs.declared.checking.CheckFault.{CheckFault}
 use Rattle.dh_check.specs.declared.checking.CheckFault.TheVariants as fault
-use Rattle.dh_check.specs.Ready.{of_pass, GoesOn, Stops, TellsShapes, TellsNamed, TellsTree}
+use Rattle.dh_check.specs.Ready.{of_pass, CheckGoesOn, Stops, TellsShapes, TellsNamed, TellsTree}
 use Rattle.dh_check.specs.Verdicts.{Verdict, refuses, exceeds, Passes, JudgedLast, JudgedLimits, JudgedTyped, JudgedTree}
 
 -- a pass that keeps a breach refuses, and one that keeps none lets the next follow
@@ -95,11 +95,11 @@ is_ready p t same of_text built names entities kinds suits shapes = record {
 }
 
 pub named_ready : (p t s : Program) → t ≡ typed p → s ≡ t → IsOfText most_tokens p → unbuilt_forms p ≡ [] → KeepsNames t → HasEntities t → HasKinds t → KeepsKinds t → TellsShapes {A = Unit {0}} s (Ok tt)
-    → (t ≡ typed p) × (IsReady (typed p) × GoesOn (λ ports v. JudgedTyped ports (typed p) v) (typed p))
+    → (t ≡ typed p) × (IsReady (typed p) × CheckGoesOn (λ ports v. JudgedTyped ports (typed p) v) (typed p))
 named_ready p t s same again of_text built names entities kinds suits h =
     let shapes : TellsShapes {A = Unit {0}} t (Ok tt) = subst (λ (x : Program). TellsShapes {A = Unit {0}} x (Ok tt)) again h in (
       same,
-      subst (λ (x : Program). IsReady x × GoesOn (λ ports v. JudgedTyped ports x v) x) same (
+      subst (λ (x : Program). IsReady x × CheckGoesOn (λ ports v. JudgedTyped ports x v) x) same (
         is_ready p t same of_text built names entities kinds suits shapes,
         λ ports v j. after_places ports t v suits shapes.0 shapes.1.0 (passed (placement_breaches t) v (JudgedLast ports t v) shapes.1.1 j),
       ),

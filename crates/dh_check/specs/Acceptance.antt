@@ -6,6 +6,6 @@ use Rattle.dh_sound.specs.Standing.{BlocksKeepPorts}
 
 -- In no run of it, from whatever memories, does a block of a phase spend more of a bank than the ports of its
 -- memory; and no run is ever stuck.
-pub record IsSound (p : Program) : Type 0 where
+pub record IsSoundProgram (p : Program) : Type 0 where
   pub blocks : BlocksKeepPorts (core_of p)
   pub never_stuck : IsNeverStuck p

@@ -19,8 +19,8 @@ use Rattle.dh_check.specs.declared.checking.CheckFault.{CheckFault}
 use Rattle.dh_check.specs.declared.checking.CheckFault.TheVariants as fault
 
 -- a program comes to what the last pass comes to; verdicts are told by whether ports are asked for
-abbrev pub GoesOn : (Bool → Verdict → Type 0) → Program → Type 0
-GoesOn tells p = (ports : Bool) (v : Verdict) → JudgedLast ports p v → tells ports v
+abbrev pub CheckGoesOn : (Bool → Verdict → Type 0) → Program → Type 0
+CheckGoesOn tells p = (ports : Bool) (v : Verdict) → JudgedLast ports p v → tells ports v
 
 -- a fault that tells the same whether ports are asked for or not
 abbrev pub Stops : (Bool → Verdict → Type 0) → CheckFault → Type 0
@@ -48,12 +48,12 @@ TellsShapes p (Err fault.NoMemory) = DeclaresViews p
 
 -- of a program whose names are resolved: kinds, shapes, limits and places
 abbrev pub TellsNamed : Program → Result Typed CheckFault → Type 0
-TellsNamed p (Ok t) = (program_seen t ≡ typed p) × (IsReady (typed p) × GoesOn (λ ports v. JudgedTyped ports (typed p) v) (typed p))
+TellsNamed p (Ok t) = (program_seen t ≡ typed p) × (IsReady (typed p) × CheckGoesOn (λ ports v. JudgedTyped ports (typed p) v) (typed p))
 TellsNamed p (Err e) = Stops (λ ports v. JudgedTyped ports (typed p) v) e
 
 -- of a tree: forms, names, and the rest
 abbrev pub TellsReady : (Bool → Verdict → Type 0) → Result Typed CheckFault → Type 0
-TellsReady tells (Ok t) = IsReady (program_seen t) × GoesOn tells (program_seen t)
+TellsReady tells (Ok t) = IsReady (program_seen t) × CheckGoesOn tells (program_seen t)
 TellsReady tells (Err e) = Stops tells e
 
 abbrev pub TellsTree : Program → Result Typed CheckFault → Type 0

@@ -7,7 +7,7 @@ ghost use Rattle.dh_tree.specs.Seen.{program_seen};
 ghost use Rattle.dh_tree.specs.Written.{IsOfText};
 ghost use Rattle.dh_tree.specs.Excesses as excesses;
 ghost use Rattle.dh_tree.specs.Ready.{most_tokens};
-ghost use Rattle.dh_check.specs.Acceptance.{IsSound};
+ghost use Rattle.dh_check.specs.Acceptance.{IsSoundProgram};
 ghost use Rattle.dh_check.specs.declared.checking.CheckFault.TheVariants as fault;
 ghost use Rattle.dh_check.specs.Ready.{of_pass, TellsText, TellsTree, TellsNamed, TellsShapes};
 ghost use Rattle.dh_check.specs.Verdicts.{Checks, ChecksWithoutPorts, counted_excess, tokens_excess};
@@ -112,7 +112,7 @@ fn first_excess(counts: Counts) -> Option<Excess>
 pub fn check(alloc: Global, text: &[u8]) -> Result<Accepted, CheckFault>
     requires { length text.now ≤ 1048576 }
     ensures verdict { Checks text.now result }
-    ensures sound { IfOk result (λ a. IsSound (program_seen a)) }
+    ensures sound { IfOk result (λ a. IsSoundProgram (program_seen a)) }
 {
     ready_programs_have_tables();
     ready_accesses_are_told();

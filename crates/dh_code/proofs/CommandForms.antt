@@ -12,9 +12,9 @@ use Rattle.dh_code.specs.declared.codes.Operation.{Operation}
 use Rattle.dh_code.specs.declared.flattening.Names.{Names}
 use Rattle.dh_code.specs.declared.places.Held.{Held}
 use Rattle.dh_code.specs.Coded.{ExtendsCode, IsCoded, IsFlat}
-use Rattle.dh_code.specs.Flattening.{Adds, AddsStep, IsFlatMade, IsInFront, table_in}
-use Rattle.dh_code.specs.Made.{Made, term_made}
-use Rattle.dh_code.specs.Operated.{IsOperand, IsOperation}
+use Rattle.dh_code.specs.Flattening.{AddsOnlyOperations, AddsStep, IsFlatMade, IsInFront, table_in}
+use Rattle.dh_code.specs.Made.{MadeExpression, term_made}
+use Rattle.dh_code.specs.Operated.{IsValidOperand, IsOperation}
 use Rattle.dh_code.specs.Scenes.{IsAction, IsHeld}
 use Rattle.dh_code.specs.Suited.{IsSuited}
 use Rattle.dh_code.proofs.CommandsCoded.{adds_extend, begins_before, coded_stays, extends_then, front_coded, range_added, sound_added, sound_step, step_extends}
@@ -34,7 +34,7 @@ flat_is held table a b t f h = record {
   value = h.value ∙ ap (λ n. (term_made held table n t).value) (sym h.from);
 }
   where
-    m : Made
+    m : MadeExpression
     m = term_made held table (length a.operations) t
 
     by : (n k : ℕ) → k ≡ length a.operations + n → f.to ≡ k → f.from ≤ f.to
@@ -47,10 +47,10 @@ flat_is held table a b t f h = record {
 pub flat_held : (held : List Held) (table : List MemEntry) (a b : Code) (t : CoreTerm) (f : Flat) → AllByRecursion IsMemory table → IsSuited table t → IsFlatMade a b (term_made held table (length a.operations) t) f → IsHeld b.operations f
 flat_held held table a b t f entries suits h =
     let i = flat_is held table a b t f h in
-    record { within = i.within; there = i.there; operand = subst IsOperand (sym h.value) (made_done held table entries (length a.operations) t suits).value }
+    record { within = i.within; there = i.there; operand = subst IsValidOperand (sym h.value) (made_done held table entries (length a.operations) t suits).value }
 
 -- one command more behind operations that it needs
-pub in_front : (names : Names) (a b c : Code) (os : List Operation) (x : Action) (next first : Option ℕ) (one : CoreCommand) (rest : CoreCommands) → Adds a b os → AddsStep b c x next first → IsCoded names.places.now (table_in names) b x one
+pub in_front : (names : Names) (a b c : Code) (os : List Operation) (x : Action) (next first : Option ℕ) (one : CoreCommand) (rest : CoreCommands) → AddsOnlyOperations a b os → AddsStep b c x next first → IsCoded names.places.now (table_in names) b x one
     → (AllByRecursion IsMemory (table_in names) → AllByRecursion (IsOperation (table_in names)) os × IsAction (table_in names) b.operations (length b.steps) x) → IsInFront names a c first next (command_and one rest) rest
 in_front names a b c os x next first one rest adds step coded done = record {
   extends = extends_then a b c ext (step_extends b c x next first step);

@@ -17,7 +17,7 @@ use Rattle.dh_code.specs.declared.codes.Operation.{Operation}
 use Rattle.dh_code.specs.declared.codes.Step.{Step}
 use Rattle.dh_code.specs.declared.places.Held.{Held}
 use Rattle.dh_code.specs.Coded.{AreCoded, AreFlat, ExtendsCode, IsCoded, IsFlat, IsFlatStore, operands_kept}
-use Rattle.dh_code.specs.Flattening.{Adds, AddsStep}
+use Rattle.dh_code.specs.Flattening.{AddsOnlyOperations, AddsStep}
 use Rattle.dh_code.specs.Operated.{IsOperation}
 use Rattle.dh_code.specs.Scenes.{IsAction, IsEarlier, IsHeld, IsSoundCode, IsStep}
 use Rattle.dh_code.proofs.MadeParts.{all_append}
@@ -77,7 +77,7 @@ extends_then a b c h k = record {
   lead = k.lead ∙ (ap (λ l. l ++ k.steps) h.lead ∙ append_assoc a.steps h.steps k.steps);
 }
 
-pub adds_extend : (a b : Code) (xs : List Operation) → Adds a b xs → ExtendsCode a b
+pub adds_extend : (a b : Code) (xs : List Operation) → AddsOnlyOperations a b xs → ExtendsCode a b
 adds_extend a b xs h = record { operations = xs; are = h.operations; steps = []; lead = h.steps ∙ sym (append-nil a.steps) }
 
 pub step_extends : (a b : Code) (x : Action) (next first : Option ℕ) → AddsStep a b x next first → ExtendsCode a b
@@ -157,7 +157,7 @@ action_stays table a b at (Assign f first depth) h i = held_stays a b f h i
 action_stays table a b at (Keep from to values depth) h i = record { within = i.within; there = longer a b to h i.there; operands = i.operands }
 action_stays table a b at (Choose f one two) h i = (held_stays a b f h i.0, i.1)
 
-pub sound_added : (table : List MemEntry) (a b : Code) (xs : List Operation) → Adds a b xs → AllByRecursion (IsOperation table) xs → IsSoundCode table a → IsSoundCode table b
+pub sound_added : (table : List MemEntry) (a b : Code) (xs : List Operation) → AddsOnlyOperations a b xs → AllByRecursion (IsOperation table) xs → IsSoundCode table a → IsSoundCode table b
 sound_added table a b xs h done s = record {
   operations = subst (λ (l : List Operation). AllByRecursion (IsOperation table) l) (sym h.operations) (all_append (IsOperation table) a.operations xs s.operations done);
   steps = λ at x get.

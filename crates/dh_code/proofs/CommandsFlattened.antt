@@ -34,9 +34,9 @@ use Rattle.dh_code.specs.declared.flattening.Names.{Names}
 use Rattle.dh_code.specs.declared.places.Held.{Held}
 use Rattle.dh_code.specs.Coded.{AreSlotsOf}
 use Rattle.dh_code.specs.Extended.{extension_of}
-use Rattle.dh_code.specs.Flattening.{Adds, AddsBinary, AddsStep, Aims, AreMade, ExtendsTo, FlattensCommand, IsAimed, IsFlatMade, IsInFront, IsMade, IsPlacingOf, IsStillAt, aimed_at, is_aimed, known_by_names, table_in}
-use Rattle.dh_code.specs.Made.{Aimed, Made, access_to, aimed_target, target_made, term_made, terms_made, variable_operand}
-use Rattle.dh_code.specs.Operated.{IsAccess, IsOperand, IsOperation}
+use Rattle.dh_code.specs.Flattening.{AddsOnlyOperations, AddsBinary, AddsStep, Aims, AreMade, ExtendsTo, FlattensCommand, IsAimed, IsFlatMade, IsInFront, IsExpressionMade, IsPlacingOf, IsStillAt, aimed_at, is_aimed, known_by_names, table_in}
+use Rattle.dh_code.specs.Made.{Aimed, MadeExpression, access_to, aimed_target, target_made, term_made, terms_made, variable_operand}
+use Rattle.dh_code.specs.Operated.{IsValidAccess, IsValidOperand, IsOperation}
 use Rattle.dh_code.specs.Slots.{Placing, held_at}
 use Rattle.dh_code.specs.Suited.{AreSuited, CanDoAll, IsSuited}
 use Rattle.dh_code.proofs.CommandForms.{flat_held, flat_is, in_front}
@@ -84,14 +84,14 @@ aimed_by_indices names old new n target place kind r indices memory os t is numb
     let reach = reach_of (known_by_names names) (n + terms_accesses (terms indices)) place r in
     let m = flat n (first_suited (table_in names) (memory_of (known_by_names names) r) w ts suits) in
     let made = aimed_made names.places.now (table_in names) (length old.operations) w ts in (
-      subst (λ (x : Aimed). Adds old new x.operations) (sym made) m.adds,
+      subst (λ (x : Aimed). AddsOnlyOperations old new x.operations) (sym made) m.adds,
       ap (λ x. record { place = place; memory = x; target = t }) number_is
           ∙ (ap (λ x. record { place = place; memory = memory_of (known_by_names names) r; target = x }) (aims ∙ ap (λ l. aimed_target names.places.now w l) m.values)
           ∙ ap (λ (x : Aimed). access_to reach x.target) (sym made)),
     ))
 
 pub aimed_by_row : (names : Names) (old new : Code) (n : ℕ) (target : plain.Term) (place : _) (kind : Option Kind) (r : Ref) (bank : ℕ) (bank_place : _) (row : plain.Term) (memory : ℕ) (o : Operand) → target ≡ plain.term place kind (plain.in_bank r bank bank_place row) → memory ≡ memory_of (known_by_names names) r
-    → ((n : ℕ) → IsSuited (table_in names) (core_term (known_by_names names) n row) → IsMade old new o (term_made names.places.now (table_in names) (length old.operations) (core_term (known_by_names names) n row)))
+    → ((n : ℕ) → IsSuited (table_in names) (core_term (known_by_names names) n row) → IsExpressionMade old new o (term_made names.places.now (table_in names) (length old.operations) (core_term (known_by_names names) n row)))
     → IsAimed names old new (aimed_at (known_by_names names) n target) (Some (record { place = place; memory = memory; target = Row bank o }))
 aimed_by_row names old new n target place kind r bank bank_place row memory o is number_is flat =
     subst (λ (t : plain.Term). IsAimed names old new (aimed_at (known_by_names names) n t) (Some (record { place = place; memory = memory; target = Row bank o }))) (sym is)
@@ -116,16 +116,16 @@ module _ (names : Names) (p : Placing) (loops : List ℕ) (same : p.held ≡ nam
 -- A reducer.
 module _ (names : Names) (p : Placing) (loops : List ℕ) (placing : IsPlacingOf p names) where
   reduced_flat : (a b b' c c' : Code) (r : Ref) (o : Op) (k to kind : Kind) (t : CoreTerm) (x' y y' z : Operand) → kind ≡ kind_of (known_by_names names) r → to ≡ extension_of o kind k
-      → ExtendsTo a b (variable_operand names.places.now kind (entity_number r.entity)) to x' → (IsSuited (table_in names) t → IsMade b c y (term_made names.places.now (table_in names) (length b.operations) t)) → ExtendsTo c c' y to y' → AddsBinary c' b' o x' y' z
+      → ExtendsTo a b (variable_operand names.places.now kind (entity_number r.entity)) to x' → (IsSuited (table_in names) t → IsExpressionMade b c y (term_made names.places.now (table_in names) (length b.operations) t)) → ExtendsTo c c' y to y' → AddsBinary c' b' o x' y' z
       → IsSuited (table_in names) (operation_of o (kind_of (known_by_names names) r) k (variable (kind_of (known_by_names names) r) (depth_of (known_by_names names) r) (entity_number r.entity)) t)
-      → IsMade a b' z (term_made names.places.now (table_in names) (length a.operations) (operation_of o (kind_of (known_by_names names) r) k (variable (kind_of (known_by_names names) r) (depth_of (known_by_names names) r) (entity_number r.entity)) t))
+      → IsExpressionMade a b' z (term_made names.places.now (table_in names) (length a.operations) (operation_of o (kind_of (known_by_names names) r) k (variable (kind_of (known_by_names names) r) (depth_of (known_by_names names) r) (entity_number r.entity)) t))
   reduced_flat a b b' c c' r o k to kind t x' y y' z kinds is first flat second adds suits =
       let held = names.places.now in
       let table = table_in names in
       let j = kind_of (known_by_names names) r in
       let v = variable j (depth_of (known_by_names names) r) (entity_number r.entity) in
       let both = operands_suited held table o j k v t suits in
-      let start : IsMade a a (variable_operand held kind (entity_number r.entity)) (term_made held table (length a.operations) v) = record { adds = adds_none a; value = ap (λ q. variable_operand held q (entity_number r.entity)) kinds } in
+      let start : IsExpressionMade a a (variable_operand held kind (entity_number r.entity)) (term_made held table (length a.operations) v) = record { adds = adds_none a; value = ap (λ q. variable_operand held q (entity_number r.entity)) kinds } in
       let one = first a (term_made held table (length a.operations) v) start in
       let two = second b (term_made held table (length b.operations) t) (flat both.1) in
       binary_flat held table a b b' z o j k to v t x' (is ∙ ap (λ q. extension_of o q k) kinds) one (adds a b _ _ one two)
@@ -133,7 +133,7 @@ module _ (names : Names) (p : Placing) (loops : List ℕ) (placing : IsPlacingOf
   pub reduce_front : (a b b' c c' new : Code) (r : Ref) (o : Op) (k to : Kind) (t : CoreTerm) (x' y y' z : Operand) (next first : Option ℕ) (rest : CoreCommands)
       → CanDoAll (table_in names) p loops (command_and (folded_into (known_by_names names) r o k t) rest) → to ≡ extension_of o (held_at names.places.now (entity_number r.entity)).kind k
       → ExtendsTo a b (variable_operand names.places.now (held_at names.places.now (entity_number r.entity)).kind (entity_number r.entity)) to x'
-      → (IsSuited (table_in names) t → IsMade b c y (term_made names.places.now (table_in names) (length b.operations) t)) → ExtendsTo c c' y to y' → AddsBinary c' b' o x' y' z
+      → (IsSuited (table_in names) t → IsExpressionMade b c y (term_made names.places.now (table_in names) (length b.operations) t)) → ExtendsTo c c' y to y' → AddsBinary c' b' o x' y' z
       → AddsStep b' new (Assign (record { from = length a.operations; to = length b'.operations; value = z }) (held_at names.places.now (entity_number r.entity)).first (held_at names.places.now (entity_number r.entity)).depth) next first
       → IsInFront names a new first next (command_and (folded_into (known_by_names names) r o k t) rest) rest
   reduce_front a b b' c c' new r o k to t x' y y' z next first rest can is extends flat extends' adds step =
@@ -145,14 +145,14 @@ module _ (names : Names) (p : Placing) (loops : List ℕ) (placing : IsPlacingOf
 
 -- A store.
 module _ (names : Names) (p : Placing) (loops : List ℕ) (old mid mid' new : Code) (t : CoreTerm) (v : Operand) (next first : Option ℕ) (rest : CoreCommands)
-    (flat : IsSuited (table_in names) t → IsMade old mid v (term_made names.places.now (table_in names) (length old.operations) t)) where
+    (flat : IsSuited (table_in names) t → IsExpressionMade old mid v (term_made names.places.now (table_in names) (length old.operations) t)) where
   abbrev held : List Held
   held = names.places.now
 
   abbrev table : List MemEntry
   table = table_in names
 
-  abbrev one : Made
+  abbrev one : MadeExpression
   one = term_made held table (length old.operations) t
 
   pub store_front : (o : Option (Reach × core.Target)) (a : Access) → CanDoAll table p loops (command_and (stored_by o t) rest) → IsAimed names mid mid' o (Some a)
@@ -163,7 +163,7 @@ module _ (names : Names) (p : Placing) (loops : List ℕ) (old mid mid' new : Co
       let aim = aimed can.0.0.0 in
       let long = adds_long old mid one.operations m.adds in
       let two = (target_made held table (length old.operations + length one.operations) target) in
-      let moved = subst (λ (n : ℕ). Adds mid mid' (target_made held table n target).operations) long aim.0 in
+      let moved = subst (λ (n : ℕ). AddsOnlyOperations mid mid' (target_made held table n target).operations) long aim.0 in
       let all = adds_then old mid mid' one.operations two.operations m.adds moved in
       let longer = adds_long old mid' (one.operations ++ two.operations) all in
       let f : Flat = record { from = length old.operations; to = length mid'.operations; value = v } in
@@ -181,8 +181,8 @@ module _ (names : Names) (p : Placing) (loops : List ℕ) (old mid mid' new : Co
       let e = target_done held table entries (length old.operations + length one.operations) r.memory target can.0.0.0 in (
         all_append (IsOperation table) one.operations two.operations d.operations e.0,
         (
-          record { within = under (length old.operations) (length (one.operations ++ two.operations)) (length mid'.operations) longer; there = at_end (length mid'.operations); operand = subst IsOperand (sym m.value) d.value },
-          subst (λ (x : Access). IsAccess table x) (sym same) e.1,
+          record { within = under (length old.operations) (length (one.operations ++ two.operations)) (length mid'.operations) longer; there = at_end (length mid'.operations); operand = subst IsValidOperand (sym m.value) d.value },
+          subst (λ (x : Access). IsValidAccess table x) (sym same) e.1,
         ),
       ))
     where

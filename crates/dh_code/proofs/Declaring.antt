@@ -12,7 +12,7 @@ use Rattle.dh_tree.proofs.Collecting.{one_more}
 use Rattle.dh_code.specs.declared.places.Declared.{Declared}
 use Rattle.dh_code.specs.declared.places.Held.{Held}
 use Rattle.dh_code.specs.Declarations.{Declaration, all_held, declaration_in, declared_of, factors_inside, declared_factors, form_declarations, held_behind, slots_counted}
-use Rattle.dh_code.specs.Placed.{AreFew, AreFound, AreLaid, Declares, IsRound, KeepsFound, copies_held, held_of}
+use Rattle.dh_code.specs.Placed.{AreFew, AreFound, AreLaidSlots, Declares, IsLoopNest, KeepsFound, copies_held, held_of}
 use Rattle.dh_code.specs.Ranks.{copies_in}
 use Rattle.dh_base.specs.Limits.{most_copies}
 use Rattle.dh_code.proofs.FewDeclared.{below_power, doubled}
@@ -25,14 +25,14 @@ copies_more (g ∷ fs) f = ap (λ n. g * n) (copies_more fs f) ∙ grouped g (co
     grouped x y z = omega arith
 
 -- inside a loop
-pub round_same : (fs : List ℕ) (depth copies f : ℕ) → f ≤ 1 → IsRound fs depth copies → IsRound (factors_inside fs f) depth copies
-round_same fs depth copies f le h = subst (λ (b : Bool). IsRound (if b then fs ++ f ∷ [] else fs) depth copies) (sym (by le)) h
+pub round_same : (fs : List ℕ) (depth copies f : ℕ) → f ≤ 1 → IsLoopNest fs depth copies → IsLoopNest (factors_inside fs f) depth copies
+round_same fs depth copies f le h = subst (λ (b : Bool). IsLoopNest (if b then fs ++ f ∷ [] else fs) depth copies) (sym (by le)) h
   where
     by : f ≤ 1 → nat_lt 1 f ≡ false
     by e = grind (arith, nat_tests)
 
-pub round_more : (fs : List ℕ) (depth copies f : ℕ) → 1 < f → IsRound fs depth copies → IsRound (factors_inside fs f) (depth + 1) (copies * f)
-round_more fs depth copies f lt h = subst (λ (b : Bool). IsRound (if b then fs ++ f ∷ [] else fs) (depth + 1) (copies * f)) (sym (by lt)) (record {
+pub round_more : (fs : List ℕ) (depth copies f : ℕ) → 1 < f → IsLoopNest fs depth copies → IsLoopNest (factors_inside fs f) (depth + 1) (copies * f)
+round_more fs depth copies f lt h = subst (λ (b : Bool). IsLoopNest (if b then fs ++ f ∷ [] else fs) (depth + 1) (copies * f)) (sym (by lt)) (record {
   deep = ap (λ n. n + 1) h.deep ∙ sym (length-append fs (f ∷ []));
   many = ap (λ n. n * f) h.many ∙ sym (copies_more fs f);
   doubled = doubled depth copies f h.doubled lt;
@@ -42,15 +42,15 @@ round_more fs depth copies f lt h = subst (λ (b : Bool). IsRound (if b then fs 
     by e = grind (arith, nat_tests)
 
 -- within the limit nothing stays at its type's greatest number
-pub round_counted : (fs : List ℕ) (depth copies f depth' copies' : ℕ) → 1 < f → depth' ≡ min (depth + 1) (2 ^ 32 - 1) → copies' ≡ min (copies * f) (2 ^ 64 - 1) → IsRound fs depth copies
-    → copies_in (factors_inside fs f) ≤ most_copies → IsRound (factors_inside fs f) depth' copies'
+pub round_counted : (fs : List ℕ) (depth copies f depth' copies' : ℕ) → 1 < f → depth' ≡ min (depth + 1) (2 ^ 32 - 1) → copies' ≡ min (copies * f) (2 ^ 64 - 1) → IsLoopNest fs depth copies
+    → copies_in (factors_inside fs f) ≤ most_copies → IsLoopNest (factors_inside fs f) depth' copies'
 round_counted fs depth copies f depth' copies' lt deep many h few =
     let more = round_more fs depth copies f lt h in
     let small = subst (λ (n : ℕ). n ≤ most_copies) (sym more.many) few in
     let shallow = below_power (depth + 1) in
     let twice = more.doubled in
-    subst (λ (n : ℕ). IsRound (factors_inside fs f) n copies') (sym (deep ∙ least (depth + 1) (2 ^ (depth + 1)) (copies * f) shallow twice small))
-    (subst (λ (n : ℕ). IsRound (factors_inside fs f) (depth + 1) n) (sym (many ∙ least_copies (copies * f) small)) more)
+    subst (λ (n : ℕ). IsLoopNest (factors_inside fs f) n copies') (sym (deep ∙ least (depth + 1) (2 ^ (depth + 1)) (copies * f) shallow twice small))
+    (subst (λ (n : ℕ). IsLoopNest (factors_inside fs f) (depth + 1) n) (sym (many ∙ least_copies (copies * f) small)) more)
   where
     least : (d p q : ℕ) → d < p → p ≤ q → q ≤ most_copies → min d (2 ^ 32 - 1) ≡ d
     least d p q a b c = omega (arith, a, b, c)
@@ -115,7 +115,7 @@ lays_turn found i count held held' count' v within is added counted l = record {
     more : (ds : List Declaration) → v ≡ option_map declared_of (declaration_in ds i) → count' ≡ count + copies_in (declared_factors (declaration_in ds i))
     more ds e = counted ∙ ap (λ k. count + k) (ap copies_held e ∙ copies_are (declaration_in ds i))
 
-pub lays_end : (found : List (Option Declared)) (i count : ℕ) (held : List Held) → i ≡ length found → Lays found i held count → AreLaid found held count
+pub lays_end : (found : List (Option Declared)) (i count : ℕ) (held : List Held) → i ≡ length found → Lays found i held count → AreLaidSlots found held count
 lays_end found i count held is l = λ ds h. (sym (append-nil held) ∙ l.held_so ds h 0 (none is), l.count_so ds h 0 (none is))
   where
     none : i ≡ length found → i + 0 ≡ length found
@@ -180,7 +180,7 @@ found_end entities list i found over g ds e = subst (λ (l : List Declaration). 
 
 -- Declarations of commands.
 
-pub declares_as : (old new : List Declared) (depth copies : ℕ) (c : Command) (form : ActionForm) → action_form_seen c.form ≡ form → ((factors : List ℕ) → IsRound factors depth copies → AreFew (form_declarations factors form) → new ≡ old ++ map declared_of (form_declarations factors form)) → Declares old new depth copies c
+pub declares_as : (old new : List Declared) (depth copies : ℕ) (c : Command) (form : ActionForm) → action_form_seen c.form ≡ form → ((factors : List ℕ) → IsLoopNest factors depth copies → AreFew (form_declarations factors form) → new ≡ old ++ map declared_of (form_declarations factors form)) → Declares old new depth copies c
 declares_as old new depth copies c form is h = λ factors round few. h factors round (subst (λ (f : ActionForm). AreFew (form_declarations factors f)) is few) ∙ ap (λ f. old ++ map declared_of (form_declarations factors f)) (sym is)
 
 pub declares_none : (old : List Declared) (depth copies : ℕ) (c : Command) (form : ActionForm) → action_form_seen c.form ≡ form → ((factors : List ℕ) → form_declarations factors form ≡ []) → Declares old old depth copies c
@@ -189,7 +189,7 @@ declares_none old depth copies c form is none = declares_as old old depth copies
 pub declares_both : (old mid new : List Declared) (xs ys : List Declaration) → mid ≡ old ++ map declared_of xs → new ≡ mid ++ map declared_of ys → new ≡ old ++ map declared_of (xs ++ ys)
 declares_both old mid new xs ys a b = b ∙ (ap (λ l. l ++ map declared_of ys) a ∙ (append_assoc old (map declared_of xs) (map declared_of ys) ∙ ap (λ l. old ++ l) (sym (map-append declared_of xs ys))))
 
-pub declares_for : (old first mid new : List Declared) (d : Declaration) (entity : Option ℕ) (k : Kind) (depth copies : ℕ) (xs ys : List Declaration) → entity ≡ d.entity → k ≡ d.kind_is → IsRound d.factors depth copies
+pub declares_for : (old first mid new : List Declared) (d : Declaration) (entity : Option ℕ) (k : Kind) (depth copies : ℕ) (xs ys : List Declaration) → entity ≡ d.entity → k ≡ d.kind_is → IsLoopNest d.factors depth copies
     → first ≡ old ++ record { entity = entity; kind = k; depth = depth; copies = copies } ∷ [] → mid ≡ first ++ map declared_of xs → new ≡ mid ++ map declared_of ys → new ≡ old ++ map declared_of (d ∷ (xs ++ ys))
 declares_for old first mid new d entity k depth copies xs ys e f round a b c =
     declares_both first mid new xs ys b c

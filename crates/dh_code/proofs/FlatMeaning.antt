@@ -16,7 +16,7 @@ use Rattle.dh_code.specs.declared.evaluating.Stop.TheVariants as stop
 use Rattle.dh_code.specs.declared.running.State.{State}
 use Rattle.dh_code.specs.declared.spending.Bank.{Bank}
 use Rattle.dh_code.specs.Coded.{AreSlotsOf, IsFlat}
-use Rattle.dh_code.specs.Made.{Made, term_made}
+use Rattle.dh_code.specs.Made.{MadeExpression, term_made}
 use Rattle.dh_code.specs.Operated.{Sight, events_after, operand_word, sight_after}
 use Rattle.dh_code.specs.Plain.{all_plain}
 use Rattle.dh_code.specs.Ranks.{IsPath, rank_of}
@@ -66,7 +66,7 @@ mutual
 -- the operations of an expression, as they stand in code
 module _ (s : Scene) (scene : IsScene s) (p : Placing) (v : Variables) (factors : List ℕ) (path : Path) (t : CoreTerm) (f : Flat) (w : Sight)
     (h : Holds p w.slots v) (at : AreRanks factors w.ranks path) (is : IsFlat p.held s.entries.now s.code.now t f) (can : CanEvaluate s.entries.now p factors t) (room : length s.code.now.operations ≤ length w.given) where
-  abbrev code : Made
+  abbrev code : MadeExpression
   code = term_made p.held s.entries.now f.from t
 
   enough : f.from + length code.operations ≤ length w.given

@@ -27,7 +27,7 @@ use Rattle.dh_code.specs.declared.codes.Target.{Target}
 use Rattle.dh_code.specs.declared.codes.Target.TheVariants.{Row}
 use Rattle.dh_code.specs.declared.places.Held.{Held}
 use Rattle.dh_code.specs.Extended.{extension_of}
-use Rattle.dh_code.specs.Flattening.{AddsBinary, AreMade, ConvertsTo, ExtendsTo, IsMade, IsOneMore}
+use Rattle.dh_code.specs.Flattening.{AddsBinary, AreMade, ConvertsTo, ExtendsTo, IsExpressionMade, IsOneMore}
 use Rattle.dh_code.specs.Made.{Aimed, aimed_target, read_of, term_made, terms_made, variable_operand}
 use Rattle.dh_code.specs.Suited.{AreSuited, IsSuited}
 use Rattle.dh_code.proofs.Flattened.{adds_none, binary_flat, read_flat, row_flat}
@@ -46,9 +46,9 @@ bank_form form of bank bank_place row is r same = ap form_seen is ∙ (physical_
 
 module _ (known : Known) (held : List Held) (table : List MemEntry) (place : Place) (k k' : Kind) (kinds : k' ≡ k) (f : TermForm) where
   abbrev flats : (a c : Code) (o : Operand) → (n : ℕ) → TermForm → Type 0
-  flats a c o n g = IsSuited table (core_form known n place k g) → IsMade a c o (term_made held table (length a.operations) (core_form known n place k g))
+  flats a c o n g = IsSuited table (core_form known n place k g) → IsExpressionMade a c o (term_made held table (length a.operations) (core_form known n place k g))
 
-  still_made : (a : Code) (o o' : Operand) → o ≡ o' → IsMade a a o (record { operations = []; value = o' })
+  still_made : (a : Code) (o o' : Operand) → o ≡ o' → IsExpressionMade a a o (record { operations = []; value = o' })
   still_made a o o' e = record { adds = adds_none a; value = e }
 
   pub number_flat : (a : Code) (n : ℕ) (negative : Bool) (v : ℕ) (w : Word) → f ≡ number negative v → (IsKind k' → w ≡ with_bits k' (bits_of k' negative v)) → flats a a (Constant w) n f
@@ -72,23 +72,23 @@ module _ (known : Known) (held : List Held) (table : List MemEntry) (place : Pla
       let ts = core_terms known n (terms indices) in
       let reach = reach_of known (n + terms_accesses (terms indices)) place r in
       let m = flat n (first_suited table (memory_of known r) w ts h) in
-      subst (λ (x : Aimed). IsMade a c o (read_of table (length a.operations) reach x.operations x.target)) (sym (aimed_made held table (length a.operations) w ts))
+      subst (λ (x : Aimed). IsExpressionMade a c o (read_of table (length a.operations) reach x.operations x.target)) (sym (aimed_made held table (length a.operations) w ts))
       (read_flat table a b c o reach place memory (terms_made held table (length a.operations) ts).operations t (aimed_target held w (terms_made held table (length a.operations) ts).values) refl number_is m.adds
       (aims ∙ ap (λ l. aimed_target held w l) m.values) more))
 
   pub bank_flat : (a b c : Code) (n : ℕ) (r : Ref) (bank : ℕ) (bank_place : Place) (row : plain.Term) (memory : ℕ) (x o : Operand) → f ≡ in_bank r bank bank_place row → memory ≡ memory_of known r
-      → ((n : ℕ) → IsSuited table (core_term known n row) → IsMade a b x (term_made held table (length a.operations) (core_term known n row)))
+      → ((n : ℕ) → IsSuited table (core_term known n row) → IsExpressionMade a b x (term_made held table (length a.operations) (core_term known n row)))
       → IsOneMore b c (Read (record { place = place; memory = memory; target = Row bank x })) (kind_in table memory) o → flats a c o n f
   bank_flat a b c n r bank bank_place row memory x o is number_is flat more =
       subst (flats a c o n) (sym is) (λ h. row_flat table a b c o (reach_of known (n + term_accesses row) place r) place memory bank x (term_made held table (length a.operations) (core_term known n row)) refl number_is (flat n h.1) more)
 
   pub cast_flat : (a b c : Code) (n : ℕ) (inner : plain.Term) (to : Kind) (x o : Operand) → f ≡ converted inner to
-      → ((n : ℕ) → IsSuited table (core_term known n inner) → IsMade a b x (term_made held table (length a.operations) (core_term known n inner))) → ConvertsTo b c x to o → flats a c o n f
+      → ((n : ℕ) → IsSuited table (core_term known n inner) → IsExpressionMade a b x (term_made held table (length a.operations) (core_term known n inner))) → ConvertsTo b c x to o → flats a c o n f
   cast_flat a b c n inner to x o is flat converts = subst (flats a c o n) (sym is) (λ h. converts a (term_made held table (length a.operations) (core_term known n inner)) (flat n h.1))
 
   pub operation_flat : (a b b' c c' d : Code) (n : ℕ) (op : Op) (left right : plain.Term) (to : Kind) (x x' y y' o : Operand) → f ≡ applied op left right → to ≡ extension_of op (kind_found left) (kind_found right)
-      → ((n : ℕ) → IsSuited table (core_term known n left) → IsMade a b x (term_made held table (length a.operations) (core_term known n left))) → ExtendsTo b b' x to x'
-      → ((n : ℕ) → IsSuited table (core_term known n right) → IsMade b' c y (term_made held table (length b'.operations) (core_term known n right))) → ExtendsTo c c' y to y' → AddsBinary c' d op x' y' o → flats a d o n f
+      → ((n : ℕ) → IsSuited table (core_term known n left) → IsExpressionMade a b x (term_made held table (length a.operations) (core_term known n left))) → ExtendsTo b b' x to x'
+      → ((n : ℕ) → IsSuited table (core_term known n right) → IsExpressionMade b' c y (term_made held table (length b'.operations) (core_term known n right))) → ExtendsTo c c' y to y' → AddsBinary c' d op x' y' o → flats a d o n f
   operation_flat a b b' c c' d n op left right to x x' y y' o is extends flat first flat' second adds =
       subst (flats a d o n) (sym is) (λ h.
       let l = core_term known n left in

@@ -19,7 +19,7 @@ use Rattle.dh_code.specs.declared.spending.Bank.{Bank}
 use Rattle.dh_code.specs.declared.spots.Spread.{Spread}
 use Rattle.dh_code.specs.Banks.{HasBank, IsSpread, LiesInRow, Spreads}
 use Rattle.dh_code.specs.Operated.{Sight, access_spot, index_values, operand_word, target_spot, unnumbered}
-use Rattle.dh_code.specs.Scenes.{LeadsTo, Spends, begun_in}
+use Rattle.dh_code.specs.Scenes.{AccessLeadsTo, Spends, begun_in}
 use Rattle.dh_code.specs.Spent.{HaveSpent}
 use Rattle.dh_code.proofs.BanksSpent.{stop_more}
 
@@ -30,7 +30,7 @@ abbrev if_so : Bool → Spot → Option Spot
 if_so t s = if t then Some s else None
 
 module _ (s : Scene) (w : Sight) (a : Access) (ds : List Dim) (same : ds ≡ dims_at s.entries.now a.memory) (there : a.memory < length s.entries.now) where
-  pub by_indices_leads : (operands : List Operand) (result : Option Spread) → a.target ≡ Indices operands → Spreads ds (index_values w operands) result → IsSpread ds result → LeadsTo s w a result
+  pub by_indices_leads : (operands : List Operand) (result : Option Spread) → a.target ≡ Indices operands → Spreads ds (index_values w operands) result → IsSpread ds result → AccessLeadsTo s w a result
   by_indices_leads operands None is h within =
       ap (λ t. target_spot (begun_in s) w a.memory t) is
       ∙ ap (λ t. if_so t (spot_of s.entries.now a.memory (map unsigned_abs (index_values w operands)))) (ap (λ x. is_inside x (index_values w operands)) (sym same) ∙ h)
@@ -48,7 +48,7 @@ module _ (s : Scene) (w : Sight) (a : Access) (ds : List Dim) (same : ds ≡ dim
       ns : List ℕ
       ns = map unsigned_abs (index_values w operands)
 
-  pub by_row_leads : (bank : ℕ) (row : Operand) (z : ℤ) (result : Option Spread) → a.target ≡ Row bank row → z ≡ words.value_of (operand_word w row) → HasBank s.entries.now a.memory bank → LiesInRow ds bank z result → LeadsTo s w a result
+  pub by_row_leads : (bank : ℕ) (row : Operand) (z : ℤ) (result : Option Spread) → a.target ≡ Row bank row → z ≡ words.value_of (operand_word w row) → HasBank s.entries.now a.memory bank → LiesInRow ds bank z result → AccessLeadsTo s w a result
   by_row_leads bank row z None is worth has h =
       ap (λ t. target_spot (begun_in s) w a.memory t) is
       ∙ (ap (λ x. spot_by_row s.entries.now a.memory bank x) (sym worth)
@@ -69,10 +69,10 @@ module _ (s : Scene) (w : Sight) (a : Access) (ds : List Dim) (same : ds ≡ dim
   abbrev passed : Option (List ℤ)
   passed = indices_through (steps_of views) (take n (index_values w operands)) (drop n (index_values w operands))
 
-  pub by_views_leads : (result : Option Spread) → SpreadsBehind ds passed result → IsSpread ds result → LeadsTo s w a result
+  pub by_views_leads : (result : Option Spread) → SpreadsBehind ds passed result → IsSpread ds result → AccessLeadsTo s w a result
   by_views_leads result h within = by passed refl result h within
     where
-      by : (o : Option (List ℤ)) → passed ≡ o → (result : Option Spread) → SpreadsBehind ds o result → IsSpread ds result → LeadsTo s w a result
+      by : (o : Option (List ℤ)) → passed ≡ o → (result : Option Spread) → SpreadsBehind ds o result → IsSpread ds result → AccessLeadsTo s w a result
       by None e None h within = ap (λ t. target_spot (begun_in s) w a.memory t) is ∙ ap (λ o. spot_if_inside s.entries.now a.memory o) e
       by None e (Some p) h within = absurd h
       by (Some zs) e None h within =

@@ -19,7 +19,7 @@ use Rattle.dh_ways.specs.Leading.{StepsLead, next_dims, offsets_on}
 use Rattle.dh_code.specs.declared.codes.Operand.{Operand}
 use Rattle.dh_code.specs.declared.spots.Spread.{Spread}
 use Rattle.dh_code.specs.Banks.{Spreads}
-use Rattle.dh_code.specs.Operated.{IsOperand, Sight, index_values, operand_word}
+use Rattle.dh_code.specs.Operated.{IsValidOperand, Sight, index_values, operand_word}
 use Rattle.dh_code.specs.Passed.{PassesTo}
 use Rattle.dh_code.specs.Passing.{SpreadsBehind, StepsFit, steps_of}
 use Rattle.dh_code.proofs.Ranges.{all_dropped, drop_past, get_whatever}
@@ -152,10 +152,10 @@ pub record LinksSoFar (w : Sight) (dims : List Dim) (links : List ViewMap) (name
   pub lead : StepsLead (steps_of (drop i links)) dims
   pub long : index.len ≡ length (next_dims (steps_of (drop i links)) dims)
   pub left : length rest ≡ offsets_on (steps_of (drop i links))
-  pub operands : AllByRecursion IsOperand rest
+  pub operands : AllByRecursion IsValidOperand rest
 
 pub links_first : (w : Sight) (dims : List Dim) (links : List ViewMap) (offsets : List Operand) (index : Index) → StepsLead (steps_of links) dims → index.len ≡ length (next_dims (steps_of links) dims)
-    → length offsets ≡ offsets_on (steps_of links) → AllByRecursion IsOperand offsets → LinksSoFar w dims links (numbers_in index) offsets offsets 0 index
+    → length offsets ≡ offsets_on (steps_of links) → AllByRecursion IsValidOperand offsets → LinksSoFar w dims links (numbers_in index) offsets offsets 0 index
 links_first w dims links offsets index lead long left operands = record { same = refl; lead = lead; long = long; left = left; operands = operands }
 
 module _ (w : Sight) (dims : List Dim) (links : List ViewMap) (named : List ℤ) (offsets rest : List Operand) (i : ℕ) (index : Index) (link : ViewMap) (there : i < length links) (is : link ≡ get_or links i link)
@@ -221,7 +221,7 @@ module _ (w : Sight) (dims : List Dim) (links : List ViewMap) (named : List ℤ)
       lead = lead_now.1.1;
       long = new_long ∙ ap (λ (l : List Dim). length l) lead_now.1.0;
       left = by (length rest) (length others) needed (offsets_on later) (ap (λ (l : List Operand). length l) others_are ∙ length-drop count rest) left_now counted;
-      operands = subst (λ (l : List Operand). AllByRecursion IsOperand l) (sym others_are) (all_dropped IsOperand rest count h.operands);
+      operands = subst (λ (l : List Operand). AllByRecursion IsValidOperand l) (sym others_are) (all_dropped IsValidOperand rest count h.operands);
     }
       where
         some : (view_through link (index_values w own) (numbers_in index) ≡ Some (numbers_in next)) × (is_inside link.parent.dims (numbers_in next) ≡ true)

@@ -13,7 +13,7 @@ use Rattle.dh_tree.specs.Tables.{elements_of, most_elements}
 use Rattle.dh_meaning.specs.Effects.{is_inside}
 use Rattle.dh_code.specs.declared.spots.Spread.{Spread}
 use Rattle.dh_extents.specs.Extents.{AreDims}
-use Rattle.dh_code.specs.Banks.{HasRoom, IsSpread, Spreads, index_within, spread_behind}
+use Rattle.dh_code.specs.Banks.{SpreadHasRoom, IsSpread, Spreads, index_within, spread_behind}
 use Rattle.dh_value.specs.Words as words
 use Rattle.dh_code.specs.declared.codes.Operand.{Operand}
 use Rattle.dh_code.specs.Operated.{Sight, index_values, operand_word}
@@ -113,7 +113,7 @@ module _ (whole : List Dim) (all : List ℤ) (d : Dim) (ds : List Dim) (z : ℤ)
         less : (a b : ℕ) → suc a ≡ suc b → a ≡ b
         less a b e = omega (arith, e)
 
-    pub room_next : AreDims whole → HasRoom s d n
+    pub room_next : AreDims whole → SpreadHasRoom s d n
     room_next are = record {
       bank = few _ _ (part_below _ _ _ _ _ (banks_some ds h.dims.1) leads_next.bank) (banks_fit whole are.dims) are.few;
       row = few _ _ (part_below _ _ _ _ _ (rows_some ds h.dims.1) leads_next.row) (rows_fit whole are.dims) are.few;
@@ -206,7 +206,7 @@ module _ (ds : List Dim) (w : Sight) (os : List Operand) where
     pub leads_more : (n : ℕ) → n < d.size → index_within d.size (value o) ≡ Some n → (t : Spread) → t ≡ spread_behind s d n → LeadsSoFar ds w os (suc i) t
     leads_more n below e t is = subst (λ (x : Spread). LeadsSoFar ds w os (suc i) x) (sym is) (leads_next ds (index_values w os) d (drop (suc i) ds) (value o) (drop (suc i) (index_values w os)) s now n below e)
 
-    pub has_room : AreDims ds → (n : ℕ) → n < d.size → index_within d.size (value o) ≡ Some n → HasRoom s d n
+    pub has_room : AreDims ds → (n : ℕ) → n < d.size → index_within d.size (value o) ≡ Some n → SpreadHasRoom s d n
     has_room are n below e = room_next ds (index_values w os) d (drop (suc i) ds) (value o) (drop (suc i) (index_values w os)) s now n below e are
 
   pub leads_last : (i : ℕ) (s : Spread) → length ds ≤ i → LeadsSoFar ds w os i s → Spreads ds (index_values w os) (Some s) × IsSpread ds (Some s)

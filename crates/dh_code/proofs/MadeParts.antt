@@ -24,15 +24,15 @@ use Rattle.dh_code.specs.declared.codes.Operation.TheVariants.{Binary, Convert, 
 use Rattle.dh_code.specs.declared.places.Held.{Held}
 use Rattle.dh_code.specs.Extended.{extension_of}
 use Rattle.dh_code.specs.Flattening.{extended_made}
-use Rattle.dh_code.specs.Made.{Made, access_to, binary_made, converted_made, one_more, target_made, term_made, terms_made}
+use Rattle.dh_code.specs.Made.{MadeExpression, access_to, binary_made, converted_made, one_more, target_made, term_made, terms_made}
 use Rattle.dh_tree.specs.Kinds.{same_kind}
-use Rattle.dh_code.specs.Operated.{IsOperand, IsOperation, IsTarget, kind_of_operand}
+use Rattle.dh_code.specs.Operated.{IsValidOperand, IsOperation, IsValidTarget, kind_of_operand}
 use Rattle.dh_code.specs.Suited.{AreSuited, IsSuited, IsSuitedTarget, term_kind}
 use Rattle.dh_code.proofs.TermsGiven.{made_kind}
 use Rattle.dh_code.proofs.ValuesOfTerms.{bits_fit, sized_at, suits_at}
 
 module _ (held : List Held) (table : List MemEntry) where
-  abbrev code : ℕ → CoreTerm → Made
+  abbrev code : ℕ → CoreTerm → MadeExpression
   code at t = term_made held table at t
 
   pub extended_is : (at : ℕ) (to : Kind) (t : CoreTerm) → code at (extended to t) ≡ extended_made at to (code at t)
@@ -41,7 +41,7 @@ module _ (held : List Held) (table : List MemEntry) where
   extended_is at (kind.Signed w) t = refl
 
   -- an operation, from the code of its operands
-  abbrev put : (at : ℕ) → Op → Kind → (l : Made) → (r : ℕ → Made) → Made
+  abbrev put : (at : ℕ) → Op → Kind → (l : MadeExpression) → (r : ℕ → MadeExpression) → MadeExpression
   put at o to l r = binary_made at o (extended_made at to l) (extended_made (at + length (extended_made at to l).operations) to (r (at + length (extended_made at to l).operations)))
 
   both_is : (at : ℕ) (o : Op) (j k : Kind) (l r : CoreTerm) → code at (binary o (extended (wider j k) l) (extended (wider j k) r)) ≡ put at o (wider j k) (code at l) (λ n. code n r)
@@ -104,9 +104,9 @@ all_append P (x ∷ xs) ys h k = (h.0, all_append P xs ys h.1 k)
 
 -- Code of what suits can be done.
 module _ (held : List Held) (table : List MemEntry) (entries : AllByRecursion IsMemory table) where
-  pub record CanBeDone (m : Made) : Type 0 where
+  pub record CanBeDone (m : MadeExpression) : Type 0 where
     pub operations : AllByRecursion (IsOperation table) m.operations
-    pub value : IsOperand m.value
+    pub value : IsValidOperand m.value
 
   more_done : (at : ℕ) (os : List Operation) (o : Operation) (k : Kind) → AllByRecursion (IsOperation table) os → IsOperation table o → IsKind k → CanBeDone (one_more at os o k)
   more_done at os o k h i sized = record { operations = all_append (IsOperation table) os (o ∷ []) h (i, tt); value = (sized, refl) }
@@ -139,17 +139,17 @@ module _ (held : List Held) (table : List MemEntry) (entries : AllByRecursion Is
       of_result op.Either k i = (omega arith, omega arith)
   kind_sized (convert to inner) h = integer_width to h.0
 
-  binary_done : (at : ℕ) (o : Op) (left right : CoreTerm) → IsSuited table (binary o left right) → (one two : Made) (n : ℕ) → one ≡ term_made held table at left → two ≡ term_made held table n right → CanBeDone one → CanBeDone two
+  binary_done : (at : ℕ) (o : Op) (left right : CoreTerm) → IsSuited table (binary o left right) → (one two : MadeExpression) (n : ℕ) → one ≡ term_made held table at left → two ≡ term_made held table n right → CanBeDone one → CanBeDone two
       → CanBeDone (binary_made at o one two)
   binary_done at o left right h one two n is is' l r =
-      let j : term_kind table left ≡ kind_of_operand one.value = sym (ap (λ (m : Made). kind_of_operand m.value) is ∙ made_kind held table at left) in
-      let k : term_kind table right ≡ kind_of_operand two.value = sym (ap (λ (m : Made). kind_of_operand m.value) is' ∙ made_kind held table n right) in
+      let j : term_kind table left ≡ kind_of_operand one.value = sym (ap (λ (m : MadeExpression). kind_of_operand m.value) is ∙ made_kind held table at left) in
+      let k : term_kind table right ≡ kind_of_operand two.value = sym (ap (λ (m : MadeExpression). kind_of_operand m.value) is' ∙ made_kind held table n right) in
       more_done at (one.operations ++ two.operations) (Binary o one.value two.value) (result_of o (kind_of_operand one.value))
       (all_append (IsOperation table) one.operations two.operations l.operations r.operations)
       (suits_at o j k h.0, (l.value, r.value))
       (subst (λ (x : Kind). IsKind (result_of o x)) j (kind_sized (binary o left right) h))
 
-  convert_done : (at : ℕ) (to : Kind) (m : Made) → IsInteger to → CanBeDone m → CanBeDone (converted_made at to m)
+  convert_done : (at : ℕ) (to : Kind) (m : MadeExpression) → IsInteger to → CanBeDone m → CanBeDone (converted_made at to m)
   convert_done at to m h i = by (same_kind (kind_of_operand m.value) to)
     where
       by : (b : Bool) → CanBeDone (if b then m else one_more at m.operations (Convert m.value to) to)
@@ -172,7 +172,7 @@ module _ (held : List Held) (table : List MemEntry) (entries : AllByRecursion Is
         binary_done at o left right h one two (at + length one.operations) refl refl l r
     made_done at (convert to inner) h = convert_done at to (term_made held table at inner) h.0 (made_done at inner h.1)
 
-    pub target_done : (at memory : ℕ) (target : core.Target) → IsSuitedTarget table memory target → AllByRecursion (IsOperation table) (target_made held table at target).operations × IsTarget table memory (target_made held table at target).target
+    pub target_done : (at memory : ℕ) (target : core.Target) → IsSuitedTarget table memory target → AllByRecursion (IsOperation table) (target_made held table at target).operations × IsValidTarget table memory (target_made held table at target).target
     target_done at memory (by_indices indices) h = let a = all_done at indices h.1 in (a.0, (h.0, a.1))
     target_done at memory (by_views steps n terms) h =
         let a = all_done at terms h.1.1 in (
@@ -188,7 +188,7 @@ module _ (held : List Held) (table : List MemEntry) (entries : AllByRecursion Is
         )
     target_done at memory (by_row bank row) h = let a = made_done at row h.1 in (a.operations, (h.0, a.value))
 
-    pub all_done : (at : ℕ) (ts : CoreTerms) → AreSuited table ts → AllByRecursion (IsOperation table) (terms_made held table at ts).operations × AllByRecursion IsOperand (terms_made held table at ts).values
+    pub all_done : (at : ℕ) (ts : CoreTerms) → AreSuited table ts → AllByRecursion (IsOperation table) (terms_made held table at ts).operations × AllByRecursion IsValidOperand (terms_made held table at ts).values
     all_done at no_terms h = (tt, tt)
     all_done at (term_and t ts) h =
         let a = made_done at t h.0 in

@@ -5,7 +5,7 @@ use Rattle.std.proofs.Math.ListN.{drop_of_length-le}
 use Rattle.dh_tree.specs.declared.tables.Dim.{Dim}
 use Rattle.dh_extents.specs.Extents.{AreDims}
 use Rattle.dh_code.specs.declared.spots.Spread.{Spread}
-use Rattle.dh_code.specs.Banks.{HasRoom, IsSpread, Spreads, index_within, spread_behind}
+use Rattle.dh_code.specs.Banks.{SpreadHasRoom, IsSpread, Spreads, index_within, spread_behind}
 use Rattle.dh_code.proofs.Located.{Leading, leads_next, leads_nowhere, leads_to, nothing_yet, room_next}
 
 abbrev pub LeadsFrom : List Dim → List ℤ → (i : ℕ) → Spread → Type 0
@@ -51,7 +51,7 @@ module _ (ds : List Dim) (all : List ℤ) where
     pub index_more : (n : ℕ) → n < d.size → index_within d.size z ≡ Some n → (t : Spread) → t ≡ spread_behind s d n → LeadsFrom ds all (suc i) t
     index_more n below e t same = subst (λ (x : Spread). LeadsFrom ds all (suc i) x) (sym same) (leads_next ds all d (drop (suc i) ds) z (drop (suc i) all) s now n below e)
 
-    pub index_room : AreDims ds → (n : ℕ) → n < d.size → index_within d.size z ≡ Some n → HasRoom s d n
+    pub index_room : AreDims ds → (n : ℕ) → n < d.size → index_within d.size z ≡ Some n → SpreadHasRoom s d n
     index_room are n below e = room_next ds all d (drop (suc i) ds) z (drop (suc i) all) s now n below e are
 
   pub index_last : (i : ℕ) (s : Spread) → length ds ≤ i → LeadsFrom ds all i s → Spreads ds all (Some s) × IsSpread ds (Some s)

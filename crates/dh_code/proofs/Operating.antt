@@ -9,7 +9,7 @@ use Rattle.dh_code.specs.declared.evaluating.Scene.{Scene}
 use Rattle.dh_code.specs.declared.evaluating.Stop.{Stop}
 use Rattle.dh_code.specs.declared.evaluating.Stop.TheVariants as stop
 use Rattle.dh_code.specs.declared.spending.Bank.{Bank}
-use Rattle.dh_code.specs.Operated.{Sight, events_after, operation_events, operation_word, sight, sight_after, with_given}
+use Rattle.dh_code.specs.Operated.{Sight, events_after, events_of_operation, word_of_operation, sight, sight_after, with_given}
 use Rattle.dh_code.specs.Scenes.{Spends, SpendsMore, begun_in}
 use Rattle.dh_code.specs.Spent.{HaveSpent, StayUsed}
 use Rattle.dh_code.proofs.BanksSpent.{stop_stays}
@@ -48,42 +48,42 @@ module _ (s : Scene) (slots ranks : List ℕ) (at : ℕ) (os : List Operation) (
     rest_seen : sight_after (begun_in s) (with_given (begun_in s) now (at + i) o) (at + suc i) (drop (suc i) os) ≡ sight_after (begun_in s) (sight slots first ranks) at os
     rest_seen = ap (λ n. sight_after (begun_in s) (with_given (begun_in s) now (at + i) o) n (drop (suc i) os)) (sym next) ∙ (ap (λ l. sight_after (begun_in s) now (at + i) l) (sym split) ∙ h.seen)
 
-    rest_events : operation_events (begun_in s) now o ++ events_after (begun_in s) (with_given (begun_in s) now (at + i) o) (at + suc i) (drop (suc i) os) ≡ events_after (begun_in s) now (at + i) (drop i os)
+    rest_events : events_of_operation (begun_in s) now o ++ events_after (begun_in s) (with_given (begun_in s) now (at + i) o) (at + suc i) (drop (suc i) os) ≡ events_after (begun_in s) now (at + i) (drop i os)
     rest_events =
-        ap (λ n. operation_events (begun_in s) now o ++ events_after (begun_in s) (with_given (begun_in s) now (at + i) o) n (drop (suc i) os)) (sym next)
+        ap (λ n. events_of_operation (begun_in s) now o ++ events_after (begun_in s) (with_given (begun_in s) now (at + i) o) n (drop (suc i) os)) (sym next)
         ∙ ap (λ l. events_after (begun_in s) now (at + i) l) (sym split)
 
-    pub operates_turn : (given' : List ℕ) (banks' : List Bank) → given' ≡ slice_set given (at + i) (operation_word (begun_in s) now o).bits → length banks' ≡ length banks → StayUsed s.step banks banks'
-        → ((es : List Event) → HaveSpent s.entries.now es s.step banks → HaveSpent s.entries.now (es ++ operation_events (begun_in s) now o) s.step banks')
+    pub operates_turn : (given' : List ℕ) (banks' : List Bank) → given' ≡ slice_set given (at + i) (word_of_operation (begun_in s) now o).bits → length banks' ≡ length banks → StayUsed s.step banks banks'
+        → ((es : List Event) → HaveSpent s.entries.now es s.step banks → HaveSpent s.entries.now (es ++ events_of_operation (begun_in s) now o) s.step banks')
         → Operates s slots ranks at os first banks_first (suc i) given' banks'
     operates_turn given' banks' sets kept uses spends = record {
       long = kept ∙ h.long;
       used = λ k. uses (h.used k);
-      room = ap (λ l. length l) sets ∙ (length-set given (at + i) (operation_word (begun_in s) now o).bits ∙ h.room);
+      room = ap (λ l. length l) sets ∙ (length-set given (at + i) (word_of_operation (begun_in s) now o).bits ∙ h.room);
       seen = ap (λ l. sight_after (begun_in s) (sight slots l ranks) (at + suc i) (drop (suc i) os)) sets ∙ rest_seen;
       spent = λ es k. let g = h.spent es k in (
-        g.0 ++ operation_events (begun_in s) now o,
+        g.0 ++ events_of_operation (begun_in s) now o,
         (
           spends g.0 g.1.0,
-          ap (λ l. (g.0 ++ operation_events (begun_in s) now o) ++ events_after (begun_in s) (sight slots l ranks) (at + suc i) (drop (suc i) os)) sets
-              ∙ (append_assoc g.0 (operation_events (begun_in s) now o) (events_after (begun_in s) (with_given (begun_in s) now (at + i) o) (at + suc i) (drop (suc i) os))
+          ap (λ l. (g.0 ++ events_of_operation (begun_in s) now o) ++ events_after (begun_in s) (sight slots l ranks) (at + suc i) (drop (suc i) os)) sets
+              ∙ (append_assoc g.0 (events_of_operation (begun_in s) now o) (events_after (begun_in s) (with_given (begun_in s) now (at + i) o) (at + suc i) (drop (suc i) os))
               ∙ (ap (λ l. g.0 ++ l) rest_events ∙ g.1.1)),
         ),
       );
     }
 
-    pub operates_stop : (A B : Type 0) (x : Stop) (banks' after : List Bank) (result : Result B Stop) → result ≡ Err x → SpendsMore {A = A} s banks (Err x) banks' (operation_events (begun_in s) now o)
+    pub operates_stop : (A B : Type 0) (x : Stop) (banks' after : List Bank) (result : Result B Stop) → result ≡ Err x → SpendsMore {A = A} s banks (Err x) banks' (events_of_operation (begun_in s) now o)
         → SpendsMore {A = B} s banks_first result after (events_after (begun_in s) (sight slots first ranks) at os)
     operates_stop A B x banks' after result stopped spends = λ es k. by es x result stopped (h.spent es k) spends
       where
         by : (es : List Event) (x : Stop) (result : Result B Stop) → result ≡ Err x
             → (so_far : List Event) × (HaveSpent s.entries.now so_far s.step banks × (so_far ++ events_after (begun_in s) now (at + i) (drop i os) ≡ es ++ events_after (begun_in s) (sight slots first ranks) at os))
-            → SpendsMore {A = A} s banks (Err x) banks' (operation_events (begun_in s) now o) → Spends {A = B} s.entries.now (es ++ events_after (begun_in s) (sight slots first ranks) at os) s.step result after
+            → SpendsMore {A = A} s banks (Err x) banks' (events_of_operation (begun_in s) now o) → Spends {A = B} s.entries.now (es ++ events_after (begun_in s) (sight slots first ranks) at os) s.step result after
         by es (stop.At outcome) result e g f =
             subst (λ (r : Result B Stop). Spends {A = B} s.entries.now (es ++ events_after (begun_in s) (sight slots first ranks) at os) s.step r after) (sym e)
             (ap (λ l. stop_after s.entries.now [] l)
-            (sym g.1.1 ∙ (ap (λ l. g.0 ++ l) (sym rest_events) ∙ sym (append_assoc g.0 (operation_events (begun_in s) now o) (events_after (begun_in s) (with_given (begun_in s) now (at + i) o) (at + suc i) (drop (suc i) os)))))
-            ∙ stop_stays s.entries.now [] (g.0 ++ operation_events (begun_in s) now o) (events_after (begun_in s) (with_given (begun_in s) now (at + i) o) (at + suc i) (drop (suc i) os)) outcome (f g.0 g.1.0))
+            (sym g.1.1 ∙ (ap (λ l. g.0 ++ l) (sym rest_events) ∙ sym (append_assoc g.0 (events_of_operation (begun_in s) now o) (events_after (begun_in s) (with_given (begun_in s) now (at + i) o) (at + suc i) (drop (suc i) os)))))
+            ∙ stop_stays s.entries.now [] (g.0 ++ events_of_operation (begun_in s) now o) (events_after (begun_in s) (with_given (begun_in s) now (at + i) o) (at + suc i) (drop (suc i) os)) outcome (f g.0 g.1.0))
         by es stop.NoMemory result e g f = subst (λ (r : Result B Stop). Spends {A = B} s.entries.now (es ++ events_after (begun_in s) (sight slots first ranks) at os) s.step r after) (sym e) tt
 
   module _ (i : ℕ) (given : List ℕ) (banks : List Bank) (over : length os ≤ i) (h : Operates s slots ranks at os first banks_first i given banks) where

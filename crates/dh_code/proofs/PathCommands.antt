@@ -15,7 +15,7 @@ use Rattle.dh_code.specs.declared.running.State.{State}
 use Rattle.dh_code.specs.Coded.{IsCoded}
 use Rattle.dh_code.specs.Scenes.{begun_in}
 use Rattle.dh_code.specs.Slots.{Placing}
-use Rattle.dh_code.specs.States.{AreRanks, AreRows, Assigns, DoesOne, Ends, IsReadyState, Keeps, KeepsAll, KeepsBack, Runs, Stores}
+use Rattle.dh_code.specs.States.{AreRanks, AreRows, AssignsVariable, DoesOne, Ends, IsReadyState, Keeps, KeepsAll, KeepsBack, Runs, Stores}
 use Rattle.dh_code.specs.Suited.{CanDo}
 use Rattle.dh_code.proofs.PathLoops.{Going, Grows, go_end, go_first, go_stop, go_turn, ranks_now}
 
@@ -86,7 +86,7 @@ done_end s old rows numbers action k now over g p factors paths c are coded can 
     go_end p s (at_one (begun_in s) c) (one_grows (begun_in s) c) factors rows numbers paths are e k now (g.ran p factors paths c are coded can e h) over
 
 -- assignments and stores, as the code does them at one path
-pub assigns_one : {A : Type 0} (s : Scene) (now new : State) (result : Result A Stop) (ranks : List ℕ) (f : Flat) (first depth : ℕ) → Assigns s now result new ranks f first depth
+pub assigns_one : {A : Type 0} (s : Scene) (now new : State) (result : Result A Stop) (ranks : List ℕ) (f : Flat) (first depth : ℕ) → AssignsVariable s now result new ranks f first depth
     → (p : Placing) (factors : List ℕ) (path : Path) (c : CoreCommand) → AreRanks factors ranks path → IsCoded p.held s.entries.now s.code.now (Assign f first depth) c → CanDo s.entries.now p factors c → Runs p s now result new (at_one (begun_in s) c path)
 assigns_one s now new result ranks f first depth h p factors path (store r target value) at coded can = absurd coded
 assigns_one s now new result ranks f first depth h p factors path (assign deep entity t) at coded can = h p factors path deep entity t at coded.0 coded.1 can.0 can.1

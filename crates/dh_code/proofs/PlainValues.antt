@@ -18,7 +18,7 @@ use Rattle.dh_code.specs.Operated.{Sight, combined_word, lowest_word, mask_of, o
 use Rattle.dh_code.specs.Scenes.{SpendsMore, flat_events}
 use Rattle.dh_code.specs.Spent.{HaveSpent}
 use Rattle.dh_code.specs.States.{KeepsVariables}
-use Rattle.dh_code.specs.Worths.{IsGivenBy, IsSingle}
+use Rattle.dh_code.specs.Worths.{IsGivenBy, IsSingleValue}
 use Rattle.dh_code.proofs.OperandMasks.{masked_is_word, masked_word}
 
 -- an operand that an operation gave
@@ -30,7 +30,7 @@ given_is kind number at mask bits same sized is = (
 
 -- an operator's value
 pub single_is : (s : Scene) (w : Sight) (operand : Operand) (at : ℕ) (op : Op) (left right : Operand) (bits : ℕ) (result : Option Word) → bits ≡ (combined_word w op left right).bits → at < length w.given → IsGivenBy operand at bits result
-    → IsSingle s w operand at (Binary op left right) result
+    → IsSingleValue s w operand at (Binary op left right) result
 single_is s w operand at op left right bits None same room given = tt
 single_is s w operand at op left right bits (Some word) same room given =
     (given.0 w room ∙ ap (λ n. operand_word (sight w.slots (slice_set w.given at n) w.ranks) operand) same, (refl, given.1))

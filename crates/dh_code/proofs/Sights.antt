@@ -10,7 +10,7 @@ use Rattle.dh_meaning.specs.Effects.{Begun}
 use Rattle.dh_code.specs.declared.codes.Operand.{Operand}
 use Rattle.dh_code.specs.declared.codes.Operand.TheVariants.{Constant, Variable, Given}
 use Rattle.dh_code.specs.declared.codes.Operation.{Operation}
-use Rattle.dh_code.specs.Operated.{Sight, events_after, lowest_word, operand_word, operation_events, operation_word, sight_after, with_given}
+use Rattle.dh_code.specs.Operated.{Sight, events_after, lowest_word, operand_word, events_of_operation, word_of_operation, sight_after, with_given}
 use Rattle.dh_code.specs.Made.{one_more}
 
 next_number : (at n : ℕ) → at + 1 + n ≡ at + suc n
@@ -29,10 +29,10 @@ module _ (b : Begun) where
   pub events_append : (w : Sight) (at : ℕ) (xs ys : List Operation) → events_after b w at (xs ++ ys) ≡ events_after b w at xs ++ events_after b (sight_after b w at xs) (at + length xs) ys
   events_append w at [] ys = ap (λ n. events_after b w n ys) (no_number at)
   events_append w at (x ∷ xs) ys =
-      ap (λ l. operation_events b w x ++ l)
+      ap (λ l. events_of_operation b w x ++ l)
       (events_append (with_given b w at x) (at + 1) xs ys
       ∙ ap (λ n. events_after b (with_given b w at x) (at + 1) xs ++ events_after b (sight_after b (with_given b w at x) (at + 1) xs) n ys) (next_number at (length xs)))
-      ∙ sym (append_assoc (operation_events b w x) (events_after b (with_given b w at x) (at + 1) xs) (events_after b (sight_after b (with_given b w at x) (at + 1) xs) (at + suc (length xs)) ys))
+      ∙ sym (append_assoc (events_of_operation b w x) (events_after b (with_given b w at x) (at + 1) xs) (events_after b (sight_after b (with_given b w at x) (at + 1) xs) (at + suc (length xs)) ys))
 
   pub slots_stay : (w : Sight) (at : ℕ) (xs : List Operation) → (sight_after b w at xs).slots ≡ w.slots
   slots_stay w at [] = refl
@@ -44,14 +44,14 @@ module _ (b : Begun) where
 
   pub room_stays : (w : Sight) (at : ℕ) (xs : List Operation) → length (sight_after b w at xs).given ≡ length w.given
   room_stays w at [] = refl
-  room_stays w at (x ∷ xs) = room_stays (with_given b w at x) (at + 1) xs ∙ length-set w.given at (operation_word b w x).bits
+  room_stays w at (x ∷ xs) = room_stays (with_given b w at x) (at + 1) xs ∙ length-set w.given at (word_of_operation b w x).bits
 
   -- what was given before stays
   pub given_stays : (w : Sight) (at : ℕ) (xs : List Operation) (i : ℕ) → i < at → slice_index (sight_after b w at xs).given i ≡ slice_index w.given i
   given_stays w at [] i early = refl
   given_stays w at (x ∷ xs) i early =
       given_stays (with_given b w at x) (at + 1) xs i (omega (arith, early))
-      ∙ get_or-set_other w.given at i (operation_word b w x).bits 0 (λ same. elim (never same early) [ ])
+      ∙ get_or-set_other w.given at i (word_of_operation b w x).bits 0 (λ same. elim (never same early) [ ])
     where
       never : i ≡ at → i < at → ⊥
       never e f = omega (arith, e, f)
@@ -84,10 +84,10 @@ module _ (b : Begun) where
     there = sight_after b w at xs
 
     abbrev word : Word
-    word = operation_word b there o
+    word = word_of_operation b there o
 
-    pub more_events : events_after b w at (xs ++ o ∷ []) ≡ events_after b w at xs ++ operation_events b there o
-    more_events = events_append w at xs (o ∷ []) ∙ ap (λ l. events_after b w at xs ++ l) (append-nil (operation_events b there o))
+    pub more_events : events_after b w at (xs ++ o ∷ []) ≡ events_after b w at xs ++ events_of_operation b there o
+    more_events = events_append w at xs (o ∷ []) ∙ ap (λ l. events_after b w at xs ++ l) (append-nil (events_of_operation b there o))
 
     pub more_value : IsWord word → word.kind ≡ k → at + length xs < length w.given → operand_word (sight_after b w at (one_more at xs o k).operations) (one_more at xs o k).value ≡ word
     more_value is same room =

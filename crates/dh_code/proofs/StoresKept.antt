@@ -20,11 +20,11 @@ use Rattle.dh_code.specs.declared.running.Write.{Write}
 use Rattle.dh_code.specs.declared.spots.Element.{Element}
 use Rattle.dh_code.specs.declared.spots.Spread.{Spread}
 use Rattle.dh_code.specs.Coded.{IsFlatStore}
-use Rattle.dh_code.specs.Made.{Aimed, Made, target_made, term_made}
+use Rattle.dh_code.specs.Made.{Aimed, MadeExpression, target_made, term_made}
 use Rattle.dh_code.specs.Operated.{Sight, access_spot, events_after, operand_word, sight_after}
 use Rattle.dh_code.specs.Plain.{all_plain, plain}
 use Rattle.dh_code.specs.Rows.{spot_seen}
-use Rattle.dh_code.specs.Scenes.{IsScene, Spends, begun_in, flat_events, flat_sight, flat_word, placed, spread_spot}
+use Rattle.dh_code.specs.Scenes.{IsScene, Spends, begun_in, flat_events, flat_sight, flat_word, spread_element, spread_spot}
 use Rattle.dh_code.specs.Slots.{Holds, Placing}
 use Rattle.dh_code.specs.Spent.{HaveSpent}
 use Rattle.dh_code.specs.States.{AreRanks, Ends, IsReadyState, Keeps, KeepsSlots, KeepsVariables, Puts, SpendsFlat, sight_in, writes_in}
@@ -46,7 +46,7 @@ module _ (s : Scene) (scene : IsScene s) (p : Placing) (factors ranks : List ℕ
   abbrev v : Variables
   v = e.variables
 
-  abbrev one : Made
+  abbrev one : MadeExpression
   one = term_made p.held s.entries.now f.from t
 
   abbrev behind : ℕ
@@ -136,7 +136,7 @@ module _ (s : Scene) (scene : IsScene s) (p : Placing) (factors ranks : List ℕ
 
     module _ (spread : Spread) (leads : access_spot (begun_in s) (sight_in middle ranks) a ≡ Some (spread_spot a.memory spread)) where
       abbrev el : Element
-      el = placed a.memory spread
+      el = spread_element a.memory spread
 
       there : spot_reached (begun_in s) v path reach target ≡ Some (spot_seen el)
       there = sym (spot_is seen) ∙ leads

@@ -14,7 +14,7 @@ use Rattle.dh_code.specs.declared.codes.Operation.{Operation}
 use Rattle.dh_code.specs.declared.codes.Target.TheVariants.{Through}
 use Rattle.dh_code.specs.declared.places.Held.{Held}
 use Rattle.dh_code.specs.Made.{AllMade, aimed, aimed_target, all_made, hidden_operand, target_made, term_made, terms_made}
-use Rattle.dh_code.specs.Passing.{views_of}
+use Rattle.dh_code.specs.Passing.{step_views}
 use Rattle.dh_code.specs.Suited.{AreSuited, IsSuitedTarget}
 use Rattle.dh_code.proofs.MadeParts.{values_made}
 
@@ -41,12 +41,12 @@ module _ (held : List Held) (table : List MemEntry) where
   pub aimed_made : (at : ℕ) (w : Option Way) (ts : CoreTerms) → target_made held table at (target_to w ts) ≡ aimed (terms_made held table at ts).operations (aimed_target held w (terms_made held table at ts).values)
   aimed_made at None ts = refl
   aimed_made at (Some w) ts =
-      ap (λ (m : AllMade). aimed m.operations (Through (views_of w.steps) (count_terms ts) m.values)) (both_made at ts w.hidden)
-      ∙ ap (λ n. aimed (terms_made held table at ts).operations (Through (views_of w.steps) n ((terms_made held table at ts).values ++ map (hidden_operand held) w.hidden))) (sym (values_made held table at ts))
+      ap (λ (m : AllMade). aimed m.operations (Through (step_views w.steps) (count_terms ts) m.values)) (both_made at ts w.hidden)
+      ∙ ap (λ n. aimed (terms_made held table at ts).operations (Through (step_views w.steps) n ((terms_made held table at ts).values ++ map (hidden_operand held) w.hidden))) (sym (values_made held table at ts))
 
 -- The target that is made of the parts of a way, as code keeps it.
 
-views_back : (vs : List ViewMap) → views_of (map step_of vs) ≡ vs
+views_back : (vs : List ViewMap) → step_views (map step_of vs) ≡ vs
 views_back [] = refl
 views_back (v ∷ vs) = ap (λ l. v ∷ l) (views_back vs)
 

@@ -26,10 +26,10 @@ use Rattle.dh_code.specs.declared.codes.Operand.TheVariants.{Variable}
 use Rattle.dh_code.specs.declared.codes.Operation.{Operation}
 use Rattle.dh_code.specs.declared.codes.Operation.TheVariants.{Binary, Convert, Read}
 use Rattle.dh_code.specs.declared.places.Held.{Held}
-use Rattle.dh_code.specs.Made.{Made, access_to, one_more, target_made, term_made, terms_made}
+use Rattle.dh_code.specs.Made.{MadeExpression, access_to, one_more, target_made, term_made, terms_made}
 use Rattle.dh_tree.specs.Kinds.{same_kind}
-use Rattle.dh_code.specs.Operated.{Sight, access_spot, events_after, index_values, kind_of_operand, lowest_word, mask_of, operand_word, operation_events, operation_word, sight_after, target_spot}
-use Rattle.dh_code.specs.Passing.{steps_of, views_of}
+use Rattle.dh_code.specs.Operated.{Sight, access_spot, events_after, index_values, kind_of_operand, lowest_word, mask_of, operand_word, events_of_operation, word_of_operation, sight_after, target_spot}
+use Rattle.dh_code.specs.Passing.{steps_of, step_views}
 use Rattle.dh_code.specs.Plain.{all_plain, plain}
 use Rattle.dh_code.specs.Ranks.{IsPath, rank_of, ranks_of}
 use Rattle.dh_code.specs.Scenes.{AreSmall}
@@ -73,7 +73,7 @@ plain_read r path None place memory is = ap (λ p. read_made (record { number = 
 plain_read r path (Some s) place memory is = ap (λ p. read_made (record { number = 0; place = p; memory = memory }) [] (Some s)) (sym is)
 
 module _ (p : Placing) (b : Begun) (v : Variables) (factors : List ℕ) (path : Path) (inside : IsPath factors path) (entries : AllByRecursion IsMemory b.table) (small : AreSmall b.table b.memories) where
-  abbrev terms : ℕ → CoreTerm → Made
+  abbrev terms : ℕ → CoreTerm → MadeExpression
   terms at t = term_made p.held b.table at t
 
   -- what is seen fits the variables at the path
@@ -176,10 +176,10 @@ module _ (p : Placing) (b : Begun) (v : Variables) (factors : List ℕ) (path : 
     before = more_before b w at os it k;
   }
     where
-      one : Made
+      one : MadeExpression
       one = terms at left
 
-      two : Made
+      two : MadeExpression
       two = terms (at + length one.operations) right
 
       os : List Operation
@@ -191,18 +191,18 @@ module _ (p : Placing) (b : Begun) (v : Variables) (factors : List ℕ) (path : 
       k : Kind
       k = result_of o (kind_of_operand one.value)
 
-      same : operation_word b (sight_after b w at os) it ≡ value_of_term b v path (binary o left right)
+      same : word_of_operation b (sight_after b w at os) it ≡ value_of_term b v path (binary o left right)
       same =
           ap (λ x. binary_of o x (operand_word (sight_after b w at os) two.value)) (first_stays w at one.operations two.operations one.value (value_of_term b v path left) gl.before gl.value)
           ∙ ap (λ y. binary_of o (value_of_term b v path left) y) (second_is w at one.operations two.operations two.value (value_of_term b v path right) gr.value)
 
-      kinds : (operation_word b (sight_after b w at os) it).kind ≡ k
+      kinds : (word_of_operation b (sight_after b w at os) it).kind ≡ k
       kinds = ap (λ (x : Word). x.kind) same ∙ (value_kind b v path (binary o left right) ∙ ap (λ j. result_of o j) (sym (made_kind p.held b.table at left)))
 
   read_gives : (w : Sight) (at : ℕ) (r : Reach) (target : core.Target) → IsSuitedTarget b.table r.memory target → at + length (terms at (read r target)).operations ≤ length w.given → Leads w at r target → Gives w at (read r target)
   read_gives w at r target h room g = record {
     value = more_value b w at os it (kind_in b.table r.memory) (subst (λ (x : Word). IsWord x) (sym same) (words_of (read r target) h)) refl (more_room w at _ os it refl room) ∙ same;
-    events = more_events b w at os it (kind_in b.table r.memory) ∙ (ap (λ l. l ++ operation_events b (sight_after b w at os) it) g.events ∙ (ap (λ e. all_plain (target_events b v path target) ++ e ∷ []) made_event ∙ sym (plain_append (target_events b v path target) (read_made r path (spot_reached b v path r target) ∷ []))));
+    events = more_events b w at os it (kind_in b.table r.memory) ∙ (ap (λ l. l ++ events_of_operation b (sight_after b w at os) it) g.events ∙ (ap (λ e. all_plain (target_events b v path target) ++ e ∷ []) made_event ∙ sym (plain_append (target_events b v path target) (read_made r path (spot_reached b v path r target) ∷ []))));
     before = more_before b w at os it (kind_in b.table r.memory);
   }
     where
@@ -212,14 +212,14 @@ module _ (p : Placing) (b : Begun) (v : Variables) (factors : List ℕ) (path : 
       it : Operation
       it = Read (access_to r (target_made p.held b.table at target).target)
 
-      same : operation_word b (sight_after b w at os) it ≡ value_of_term b v path (read r target)
+      same : word_of_operation b (sight_after b w at os) it ≡ value_of_term b v path (read r target)
       same = ap (λ o. with_bits (kind_in b.table r.memory) (bits_at b.memories o)) g.spot
 
       made_event : read_made (record { number = 0; place = r.place; memory = r.memory }) [] (access_spot b (sight_after b w at os) (access_to r (target_made p.held b.table at target).target)) ≡ plain (read_made r path (spot_reached b v path r target))
       made_event = ap (λ o. read_made (record { number = 0; place = r.place; memory = r.memory }) [] o) g.spot ∙ plain_read r path (spot_reached b v path r target) r.place r.memory refl
 
   -- what is to be shown of some code
-  abbrev IsRight : (w : Sight) (at : ℕ) → Made → Word → List Event → Type 0
+  abbrev IsRight : (w : Sight) (at : ℕ) → MadeExpression → Word → List Event → Type 0
   IsRight w at m z es = (operand_word (sight_after b w at m.operations) m.value ≡ z) × ((events_after b w at m.operations ≡ all_plain es) × IsBefore b (at + length m.operations) m.value)
 
   convert_gives : (w : Sight) (at : ℕ) (to : Kind) (inner : CoreTerm) → IsSuited b.table (convert to inner) → at + length (terms at (convert to inner)).operations ≤ length w.given
@@ -228,7 +228,7 @@ module _ (p : Placing) (b : Begun) (v : Variables) (factors : List ℕ) (path : 
       let r = by (same_kind (kind_of_operand m.value) to) refl room in
       record { value = r.0; events = r.1.0; before = r.1.1 }
     where
-      m : Made
+      m : MadeExpression
       m = terms at inner
 
       it : Operation
@@ -247,7 +247,7 @@ module _ (p : Placing) (b : Begun) (v : Variables) (factors : List ℕ) (path : 
           (i.value ∙ (sym (word_again worth (words_of inner h.1)) ∙ ap (λ k. word_of k (words.value_of worth)) (kinds ∙ same_kind_is (kind_of_operand m.value) to e)), (i.events, i.before))
       by false e room =
           let i = g (less_room w at m.operations it room) in
-          let same : operation_word b (sight_after b w at m.operations) it ≡ word_of to (words.value_of worth) = ap (λ (x : Word). word_of to (words.value_of x)) i.value in (
+          let same : word_of_operation b (sight_after b w at m.operations) it ≡ word_of to (words.value_of worth) = ap (λ (x : Word). word_of to (words.value_of x)) i.value in (
             more_value b w at m.operations it to (word_of_is_word to _ (integer_width to h.0)) refl (more_room w at _ m.operations it refl room) ∙ same,
             (more_events b w at m.operations it to ∙ (append-nil (events_after b w at m.operations) ∙ i.events), more_before b w at m.operations it to),
           )
@@ -261,7 +261,7 @@ module _ (p : Placing) (b : Begun) (v : Variables) (factors : List ℕ) (path : 
     before = (before_more b (at + length one.operations) (at + length (one.operations ++ two)) one.value (further (length one.operations) (length two) _ (length-append one.operations two)) gl.before, subst (λ (n : ℕ). AreBefore b n others) (longer w at one.operations two 0) gr.before);
   }
     where
-      one : Made
+      one : MadeExpression
       one = terms at t
 
       two : List Operation
@@ -296,7 +296,7 @@ module _ (p : Placing) (b : Begun) (v : Variables) (factors : List ℕ) (path : 
     leads w at r (by_views steps n terms) s h i room =
         let g = gives_all w at terms s h.1.1 i room in
         record {
-          spot = ap (λ l. spot_by_views b.table r.memory (steps_of (views_of steps)) (take n l) (drop n l)) g.values
+          spot = ap (λ l. spot_by_views b.table r.memory (steps_of (step_views steps)) (take n l) (drop n l)) g.values
               ∙ ap (λ ss. spot_by_views b.table r.memory ss (take n (values_of b v path terms)) (drop n (values_of b v path terms))) h.1.0.are;
           events = g.events;
         }

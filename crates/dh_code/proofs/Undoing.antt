@@ -3,9 +3,9 @@ use Rattle.std.proofs.Common.{◌≡◌, ℕ, zero, suc, ◌-◌, ◌<◌, ◌�
 use Rattle.std.specs.Prelude.{slice_set}
 use Rattle.std.proofs.lemmas.List.{set-get_or}
 use Rattle.dh_code.specs.declared.running.Change.{Change}
-use Rattle.dh_code.specs.States.{undone}
+use Rattle.dh_code.specs.States.{undone_slots}
 
-pub undone_more : (cs : List Change) (c : Change) (words : List ℕ) → undone (cs ++ c ∷ []) words ≡ undone cs (slice_set words c.slot c.before)
+pub undone_more : (cs : List Change) (c : Change) (words : List ℕ) → undone_slots (cs ++ c ∷ []) words ≡ undone_slots cs (slice_set words c.slot c.before)
 undone_more [] c words = refl
 undone_more (b ∷ cs) c words = ap (λ ws. slice_set ws b.slot b.before) (undone_more cs c words)
 
@@ -17,12 +17,12 @@ set_again (x ∷ xs) (suc i) a b = ap (λ l. x ∷ l) (set_again xs i a b)
 
 -- a variable that was set, with its value before
 pub set_back : (cs cs' : List Change) (words words' : List ℕ) (slot : ℕ) (value before : ℕ) → before ≡ get_or words slot 0 → cs' ≡ cs ++ record { slot = slot; before = before } ∷ [] → words' ≡ slice_set words slot value
-    → undone cs' words' ≡ undone cs words
+    → undone_slots cs' words' ≡ undone_slots cs words
 set_back cs cs' words words' slot value before is added set =
-    ap (λ l. undone l words') added
-    ∙ (ap (λ ws. undone (cs ++ record { slot = slot; before = before } ∷ []) ws) set
+    ap (λ l. undone_slots l words') added
+    ∙ (ap (λ ws. undone_slots (cs ++ record { slot = slot; before = before } ∷ []) ws) set
     ∙ (undone_more cs (record { slot = slot; before = before }) (slice_set words slot value)
-    ∙ ap (λ ws. undone cs ws) (set_again words slot value before ∙ (ap (λ v. slice_set words slot v) is ∙ set-get_or words slot 0))))
+    ∙ ap (λ ws. undone_slots cs ws) (set_again words slot value before ∙ (ap (λ v. slice_set words slot v) is ∙ set-get_or words slot 0))))
 
 take_more : {X : Type 0} (xs : List X) (k : ℕ) (d : X) → k < length xs → take (suc k) xs ≡ take k xs ++ get_or xs k d ∷ []
 take_more [] k d within = absurd (none k within)
@@ -33,9 +33,9 @@ take_more (x ∷ xs) zero d within = refl
 take_more (x ∷ xs) (suc k) d within = ap (λ l. x ∷ l) (take_more xs k d (omega (arith, within)))
 
 -- one change that is taken back
-pub undo_turn : (changes : List Change) (i : ℕ) (d : Change) (words all : List ℕ) → 0 < i → i ≤ length changes → undone (take i changes) words ≡ all
-    → undone (take (i - 1) changes) (slice_set words (get_or changes (i - 1) d).slot (get_or changes (i - 1) d).before) ≡ all
+pub undo_turn : (changes : List Change) (i : ℕ) (d : Change) (words all : List ℕ) → 0 < i → i ≤ length changes → undone_slots (take i changes) words ≡ all
+    → undone_slots (take (i - 1) changes) (slice_set words (get_or changes (i - 1) d).slot (get_or changes (i - 1) d).before) ≡ all
 undo_turn changes i d words all some within before =
     let back : suc (i - 1) ≡ i = omega (arith, some) in
     sym (undone_more (take (i - 1) changes) (get_or changes (i - 1) d) words)
-    ∙ (ap (λ l. undone l words) (sym (ap (λ n. take n changes) (sym back) ∙ take_more changes (i - 1) d (omega (arith, some, within)))) ∙ before)
+    ∙ (ap (λ l. undone_slots l words) (sym (ap (λ n. take n changes) (sym back) ∙ take_more changes (i - 1) d (omega (arith, some, within)))) ∙ before)

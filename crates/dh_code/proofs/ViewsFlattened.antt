@@ -27,7 +27,7 @@ use Rattle.dh_code.specs.declared.places.Held.{Held}
 use Rattle.dh_code.specs.Coded.{AreFlat, AreSlotsFrom, operands_kept}
 use Rattle.dh_code.specs.Flattening.{AddsStep, AreMade, FlattensAll, FlattensOffsets, IsInFront, kept_from, known_by_names, offsets_by, table_in}
 use Rattle.dh_code.specs.Made.{AllMade, terms_made}
-use Rattle.dh_code.specs.Operated.{IsOperand}
+use Rattle.dh_code.specs.Operated.{IsValidOperand}
 use Rattle.dh_code.specs.Slots.{Placing, held_at}
 use Rattle.dh_code.specs.Suited.{AreInsideFrom, AreSuited, CanDoAll}
 use Rattle.dh_code.proofs.CommandForms.{in_front}
@@ -106,7 +106,7 @@ kept_operands : (held : List Held) (e : ℕ) (os : List Operand) → operands_ke
 kept_operands held e [] = refl
 kept_operands held e (o ∷ os) = ap (λ l. o ∷ l) (kept_operands held (suc e) os)
 
-kept_held : (held : List Held) (e : ℕ) (os : List Operand) → AllByRecursion IsOperand os → AllByRecursion (λ k. IsOperand k.value) (kept_from held e os)
+kept_held : (held : List Held) (e : ℕ) (os : List Operand) → AllByRecursion IsValidOperand os → AllByRecursion (λ k. IsValidOperand k.value) (kept_from held e os)
 kept_held held e [] h = tt
 kept_held held e (o ∷ os) h = (h.0, kept_held held (suc e) os h.1)
 
@@ -153,7 +153,7 @@ module _ (names : Names) (p : Placing) (loops : List ℕ) (same : p.held ≡ nam
         record {
           within = subst (λ (n : ℕ). n ≤ to) (sym starts) (subst (λ (n : ℕ). length old.operations ≤ n) (sym ends) (under (length old.operations) (length made.operations) (length mid.operations) long));
           there = subst (λ (n : ℕ). n ≤ length mid.operations) (sym ends) (at_end (length mid.operations));
-          operands = subst (λ (l : List Kept). AllByRecursion (λ k. IsOperand k.value) l) (sym kept) (kept_held held entity os (subst (λ (l : List Operand). AllByRecursion IsOperand l) (sym m.values) done.1));
+          operands = subst (λ (l : List Kept). AllByRecursion (λ k. IsValidOperand k.value) l) (sym kept) (kept_held held entity os (subst (λ (l : List Operand). AllByRecursion IsValidOperand l) (sym m.values) done.1));
         },
       ))
     where

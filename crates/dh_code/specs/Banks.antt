@@ -47,7 +47,7 @@ spread_behind s d index = record {
 }
 
 -- its numbers are of 64 bits
-pub record HasRoom (s : Spread) (d : Dim) (index : ℕ) : Type 0 where
+pub record SpreadHasRoom (s : Spread) (d : Dim) (index : ℕ) : Type 0 where
   pub bank : s.bank * d.banks + index % d.banks < 2 ^ 64
   pub row : s.row * (d.size / d.banks) + index / d.banks < 2 ^ 64
   pub position : s.position * d.size + index < 2 ^ 64

@@ -38,7 +38,7 @@ use Rattle.dh_code.specs.declared.codes.Operation.{Operation}
 use Rattle.dh_code.specs.declared.codes.Flat.{Flat}
 use Rattle.dh_code.specs.declared.flattening.Names.{Names}
 use Rattle.dh_code.specs.Coded.{AreCoded, ExtendsCode}
-use Rattle.dh_code.specs.Made.{AllMade, Made, access_to, aimed_target, binary_made, converted_made, hidden_operand, target_made, term_made, terms_made}
+use Rattle.dh_code.specs.Made.{AllMade, MadeExpression, access_to, aimed_target, binary_made, converted_made, hidden_operand, target_made, term_made, terms_made}
 use Rattle.dh_code.specs.Operated.{mask_of}
 use Rattle.dh_code.specs.Scenes.{IsSoundCode}
 use Rattle.dh_code.specs.declared.places.Held.{Held}
@@ -53,29 +53,29 @@ abbrev pub table_in : Names → List MemEntry
 table_in names = table_of (program_seen names.program.now)
 
 -- these operations are added, and nothing else
-pub record Adds (old new : Code) (os : List Operation) : Type 0 where
+pub record AddsOnlyOperations (old new : Code) (os : List Operation) : Type 0 where
   pub operations : new.operations ≡ old.operations ++ os
   pub steps : new.steps ≡ old.steps
 
 -- this is made behind what there was, with this operand for its value
-pub record IsMade (old new : Code) (o : Operand) (m : Made) : Type 0 where
-  pub adds : Adds old new m.operations
+pub record IsExpressionMade (old new : Code) (o : Operand) (m : MadeExpression) : Type 0 where
+  pub adds : AddsOnlyOperations old new m.operations
   pub value : o ≡ m.value
 
 pub record AreMade (old new : Code) (os : List Operand) (m : AllMade) : Type 0 where
-  pub adds : Adds old new m.operations
+  pub adds : AddsOnlyOperations old new m.operations
   pub values : os ≡ m.values
 
 -- one operation more, whose value is of a kind
 pub record IsOneMore (old new : Code) (operation : Operation) (kind : Kind) (o : Operand) : Type 0 where
-  pub adds : Adds old new (operation ∷ [])
+  pub adds : AddsOnlyOperations old new (operation ∷ [])
   pub value : o ≡ Given kind (length old.operations) (mask_of kind)
 
 -- the code of an expression, wherever its accesses are numbered from
 abbrev pub Flattens : Names → (old new : Code) → Expr → Operand → Type 0
 Flattens names old new e o =
     (n : ℕ) → IsSuited (table_in names) (core_term (known_by_names names) n (term_seen e))
-    → IsMade old new o (term_made names.places.now (table_in names) (length old.operations) (core_term (known_by_names names) n (term_seen e)))
+    → IsExpressionMade old new o (term_made names.places.now (table_in names) (length old.operations) (core_term (known_by_names names) n (term_seen e)))
 
 abbrev pub FlattensAll : Names → (old new : Code) → List Expr → List Operand → Type 0
 FlattensAll names old new es os =
@@ -107,24 +107,24 @@ kept_from held entity (o ∷ os) = record { value = o; first = (held_at held ent
 
 -- a value in another kind, behind whatever was made of it
 abbrev pub ConvertsTo : (old new : Code) → Operand → Kind → Operand → Type 0
-ConvertsTo old new from to o = (base : Code) (m : Made) → IsMade base old from m → IsMade base new o (converted_made (length base.operations) to m)
+ConvertsTo old new from to o = (base : Code) (m : MadeExpression) → IsExpressionMade base old from m → IsExpressionMade base new o (converted_made (length base.operations) to m)
 
-abbrev pub extended_made : (at : ℕ) → Kind → Made → Made
+abbrev pub extended_made : (at : ℕ) → Kind → MadeExpression → MadeExpression
 extended_made at Bool m = m
 extended_made at (Unsigned w) m = converted_made at (Unsigned w) m
 extended_made at (Signed w) m = converted_made at (Signed w) m
 
 abbrev pub ExtendsTo : (old new : Code) → Operand → Kind → Operand → Type 0
-ExtendsTo old new from to o = (base : Code) (m : Made) → IsMade base old from m → IsMade base new o (extended_made (length base.operations) to m)
+ExtendsTo old new from to o = (base : Code) (m : MadeExpression) → IsExpressionMade base old from m → IsExpressionMade base new o (extended_made (length base.operations) to m)
 
 -- an operator, behind whatever was made of its operands
 abbrev pub AddsBinary : (old new : Code) → Op → (left right : Operand) → Operand → Type 0
 AddsBinary old new op left right o =
-    (base middle : Code) (l r : Made) → IsMade base middle left l → IsMade middle old right r → IsMade base new o (binary_made (length base.operations) op l r)
+    (base middle : Code) (l r : MadeExpression) → IsExpressionMade base middle left l → IsExpressionMade middle old right r → IsExpressionMade base new o (binary_made (length base.operations) op l r)
 
 -- this was made behind what there was, and is an expression by its first and last operation
-pub record IsFlatMade (old new : Code) (m : Made) (f : Flat) : Type 0 where
-  pub adds : Adds old new m.operations
+pub record IsFlatMade (old new : Code) (m : MadeExpression) (f : Flat) : Type 0 where
+  pub adds : AddsOnlyOperations old new m.operations
   pub from : f.from ≡ length old.operations
   pub to : f.to ≡ length new.operations
   pub value : f.value ≡ m.value
@@ -235,7 +235,7 @@ IsAimed names old new None (Some a) = ⊥
 IsAimed names old new (Some (r, t)) None = ⊥
 IsAimed names old new (Some (r, t)) (Some a) =
     IsSuitedTarget (table_in names) r.memory t
-    → Adds old new (target_made names.places.now (table_in names) (length old.operations) t).operations
+    → AddsOnlyOperations old new (target_made names.places.now (table_in names) (length old.operations) t).operations
     × (a ≡ access_to r (target_made names.places.now (table_in names) (length old.operations) t).target)
 
 abbrev pub IsAimedAt : Names → (old new : Code) → Expr → Option Access → Type 0

@@ -20,16 +20,16 @@ use Rattle.dh_code.specs.declared.codes.Operation.{Operation}
 use Rattle.dh_code.specs.declared.codes.Operation.TheVariants.{Binary, Convert, Read}
 use Rattle.dh_code.specs.declared.places.Held.{Held}
 use Rattle.dh_meaning.specs.Ways.{Hidden, Way}
-use Rattle.dh_code.specs.Passing.{views_of}
+use Rattle.dh_code.specs.Passing.{step_views}
 use Rattle.dh_code.specs.Slots.{held_at}
 use Rattle.dh_code.specs.Operated.{kind_of_operand, mask_of}
 
-pub record Made : Type 0 where
+pub record MadeExpression : Type 0 where
   pub operations : List Operation
   pub value : Operand
 
-abbrev pub made : List Operation → Operand → Made
-made operations value = record { operations = operations; value = value }
+abbrev pub made_expression : List Operation → Operand → MadeExpression
+made_expression operations value = record { operations = operations; value = value }
 
 -- of indices: their values
 pub record AllMade : Type 0 where
@@ -40,22 +40,22 @@ abbrev pub all_made : List Operation → List Operand → AllMade
 all_made operations values = record { operations = operations; values = values }
 
 -- one operation more, whose value is of this kind
-abbrev pub one_more : (at : ℕ) → List Operation → Operation → Kind → Made
-one_more at os o kind = made (os ++ o ∷ []) (Given kind (at + length os) (mask_of kind))
+abbrev pub one_more : (at : ℕ) → List Operation → Operation → Kind → MadeExpression
+one_more at os o kind = made_expression (os ++ o ∷ []) (Given kind (at + length os) (mask_of kind))
 
 -- a value in another kind: nothing is done where it is of that kind already
-abbrev pub converted_made : (at : ℕ) → Kind → Made → Made
+abbrev pub converted_made : (at : ℕ) → Kind → MadeExpression → MadeExpression
 converted_made at to m = if same_kind (kind_of_operand m.value) to then m else one_more at m.operations (Convert m.value to) to
 
 -- an operator, from the code of its left operand and of its right one behind it
-abbrev pub binary_made : (at : ℕ) → Op → Made → Made → Made
+abbrev pub binary_made : (at : ℕ) → Op → MadeExpression → MadeExpression → MadeExpression
 binary_made at op l r = one_more at (l.operations ++ r.operations) (Binary op l.value r.value) (result_of op (kind_of_operand l.value))
 
 abbrev pub access_to : Reach → Target → Access
 access_to reach target = record { place = reach.place; memory = reach.memory; target = target }
 
 -- an element that is read behind the code of its indices
-abbrev pub read_of : List MemEntry → (at : ℕ) → Reach → List Operation → Target → Made
+abbrev pub read_of : List MemEntry → (at : ℕ) → Reach → List Operation → Target → MadeExpression
 read_of table at reach os target = one_more at os (Read (access_to reach target)) (kind_in table reach.memory)
 
 -- the code of which element, in front of its access
@@ -76,13 +76,13 @@ hidden_operand held h = variable_operand held h.kind h.entity
 -- which element these values of indices name, of a memory or through the views on a way
 abbrev pub aimed_target : List Held → Option Way → List Operand → Target
 aimed_target held None os = Indices os
-aimed_target held (Some w) os = Through (views_of w.steps) (length os) (os ++ map (hidden_operand held) w.hidden)
+aimed_target held (Some w) os = Through (step_views w.steps) (length os) (os ++ map (hidden_operand held) w.hidden)
 
 abbrev mutual
-  pub term_made : List Held → List MemEntry → (at : ℕ) → CoreTerm → Made
-  term_made held table at (literal kind negative n) = made [] (Constant (with_bits kind (bits_of kind negative n)))
-  term_made held table at (truth_literal value) = made [] (Constant (operations.truth value))
-  term_made held table at (variable kind depth entity) = made [] (variable_operand held kind entity)
+  pub term_made : List Held → List MemEntry → (at : ℕ) → CoreTerm → MadeExpression
+  term_made held table at (literal kind negative n) = made_expression [] (Constant (with_bits kind (bits_of kind negative n)))
+  term_made held table at (truth_literal value) = made_expression [] (Constant (operations.truth value))
+  term_made held table at (variable kind depth entity) = made_expression [] (variable_operand held kind entity)
   term_made held table at (read reach target) = read_of table at reach (target_made held table at target).operations (target_made held table at target).target
   term_made held table at (binary op left right) =
       binary_made at op (term_made held table at left) (term_made held table (at + length (term_made held table at left).operations) right)
@@ -90,7 +90,7 @@ abbrev mutual
 
   pub target_made : List Held → List MemEntry → (at : ℕ) → core.Target → Aimed
   target_made held table at (by_indices indices) = aimed (terms_made held table at indices).operations (Indices (terms_made held table at indices).values)
-  target_made held table at (by_views steps n terms) = aimed (terms_made held table at terms).operations (Through (views_of steps) n (terms_made held table at terms).values)
+  target_made held table at (by_views steps n terms) = aimed (terms_made held table at terms).operations (Through (step_views steps) n (terms_made held table at terms).values)
   target_made held table at (by_row bank row) = aimed (term_made held table at row).operations (Row bank (term_made held table at row).value)
 
   pub terms_made : List Held → List MemEntry → (at : ℕ) → CoreTerms → AllMade

@@ -80,20 +80,20 @@ abbrev pub converted_word : Sight → Operand → Kind → Word
 converted_word s from to = word_of to (words.value_of (operand_word s from))
 
 -- what an operation gives
-abbrev pub operation_word : Begun → Sight → Operation → Word
-operation_word b s (Binary op left right) = binary_of op (operand_word s left) (operand_word s right)
-operation_word b s (Convert from to) = word_of to (words.value_of (operand_word s from))
-operation_word b s (Read access) = with_bits (kind_in b.table access.memory) (bits_at b.memories (access_spot b s access))
+abbrev pub word_of_operation : Begun → Sight → Operation → Word
+word_of_operation b s (Binary op left right) = binary_of op (operand_word s left) (operand_word s right)
+word_of_operation b s (Convert from to) = word_of to (words.value_of (operand_word s from))
+word_of_operation b s (Read access) = with_bits (kind_in b.table access.memory) (bits_at b.memories (access_spot b s access))
 
 -- the access or fault that it makes
-abbrev pub operation_events : Begun → Sight → Operation → List Event
-operation_events b s (Binary op left right) = []
-operation_events b s (Convert from to) = []
-operation_events b s (Read access) = read_made (unnumbered access) [] (access_spot b s access) ∷ []
+abbrev pub events_of_operation : Begun → Sight → Operation → List Event
+events_of_operation b s (Binary op left right) = []
+events_of_operation b s (Convert from to) = []
+events_of_operation b s (Read access) = read_made (unnumbered access) [] (access_spot b s access) ∷ []
 
 -- what was given so far, with the value of an operation under its number
 abbrev pub with_given : Begun → Sight → (at : ℕ) → Operation → Sight
-with_given b s at o = sight s.slots (slice_set s.given at (operation_word b s o).bits) s.ranks
+with_given b s at o = sight s.slots (slice_set s.given at (word_of_operation b s o).bits) s.ranks
 
 -- what is seen after operations that are numbered from a number on, and the accesses and faults that they made
 abbrev pub sight_after : Begun → Sight → (at : ℕ) → List Operation → Sight
@@ -102,26 +102,26 @@ sight_after b s at (o ∷ os) = sight_after b (with_given b s at o) (at + 1) os
 
 abbrev pub events_after : Begun → Sight → (at : ℕ) → List Operation → List Event
 events_after b s at [] = []
-events_after b s at (o ∷ os) = operation_events b s o ++ events_after b (with_given b s at o) (at + 1) os
+events_after b s at (o ∷ os) = events_of_operation b s o ++ events_after b (with_given b s at o) (at + 1) os
 
 -- Operations that can be done.
 
 -- an operand has a kind and the mask of the kind, and a constant is a word
-abbrev pub IsOperand : Operand → Type 0
-IsOperand (Constant word) = IsWord word
-IsOperand (Variable first depth kind mask) = IsKind kind × (mask ≡ mask_of kind)
-IsOperand (Given kind at mask) = IsKind kind × (mask ≡ mask_of kind)
+abbrev pub IsValidOperand : Operand → Type 0
+IsValidOperand (Constant word) = IsWord word
+IsValidOperand (Variable first depth kind mask) = IsKind kind × (mask ≡ mask_of kind)
+IsValidOperand (Given kind at mask) = IsKind kind × (mask ≡ mask_of kind)
 
-abbrev pub IsTarget : List MemEntry → (memory : ℕ) → Target → Type 0
-IsTarget table memory (Indices operands) = (memory < length table) × AllByRecursion IsOperand operands
-IsTarget table memory (Through views n operands) =
-    (memory < length table) × (StepsFit (dims_at table memory) (steps_of views) n (length operands) × AllByRecursion IsOperand operands)
-IsTarget table memory (Row bank row) = HasBank table memory bank × IsOperand row
+abbrev pub IsValidTarget : List MemEntry → (memory : ℕ) → Target → Type 0
+IsValidTarget table memory (Indices operands) = (memory < length table) × AllByRecursion IsValidOperand operands
+IsValidTarget table memory (Through views n operands) =
+    (memory < length table) × (StepsFit (dims_at table memory) (steps_of views) n (length operands) × AllByRecursion IsValidOperand operands)
+IsValidTarget table memory (Row bank row) = HasBank table memory bank × IsValidOperand row
 
-abbrev pub IsAccess : List MemEntry → Access → Type 0
-IsAccess table a = IsTarget table a.memory a.target
+abbrev pub IsValidAccess : List MemEntry → Access → Type 0
+IsValidAccess table a = IsValidTarget table a.memory a.target
 
 abbrev pub IsOperation : List MemEntry → Operation → Type 0
-IsOperation table (Binary op left right) = Suits op (kind_of_operand left) (kind_of_operand right) × (IsOperand left × IsOperand right)
-IsOperation table (Convert from to) = IsInteger to × IsOperand from
-IsOperation table (Read access) = IsAccess table access
+IsOperation table (Binary op left right) = Suits op (kind_of_operand left) (kind_of_operand right) × (IsValidOperand left × IsValidOperand right)
+IsOperation table (Convert from to) = IsInteger to × IsValidOperand from
+IsOperation table (Read access) = IsValidAccess table access

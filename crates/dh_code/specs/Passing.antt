@@ -10,8 +10,8 @@ use Rattle.dh_code.specs.declared.spots.Spread.{Spread}
 use Rattle.dh_code.specs.Banks.{Spreads}
 
 -- the views of steps, and the steps of views
-abbrev pub views_of : List WayStep → List ViewMap
-views_of steps = map (λ s. s.is) steps
+abbrev pub step_views : List WayStep → List ViewMap
+step_views steps = map (λ s. s.is) steps
 
 abbrev pub steps_of : List ViewMap → List WayStep
 steps_of views = map step_of views
@@ -19,7 +19,7 @@ steps_of views = map step_of views
 -- steps that follow one another to a memory of these dimensions, with as many indices as what is named has dimensions,
 -- and with the offsets so many values
 pub record StepsFit (memory : List Dim) (steps : List WayStep) (indices values : ℕ) : Type 0 where
-  pub are : steps_of (views_of steps) ≡ steps
+  pub are : steps_of (step_views steps) ≡ steps
   pub lead : StepsLead steps memory
   pub named : indices ≡ length (next_dims steps memory)
   pub all : values ≡ indices + offsets_on steps

@@ -14,15 +14,15 @@ use Rattle.dh_code.specs.Ranks.{copies_in}
 use Rattle.dh_base.specs.Limits.{most_copies}
 
 -- loops of these factors: how many they are, and their copies together, of which each loop has at least two
-pub record IsRound (factors : List ℕ) (depth copies : ℕ) : Type 0 where
+pub record IsLoopNest (factors : List ℕ) (depth copies : ℕ) : Type 0 where
   pub deep : depth ≡ length factors
   pub many : copies ≡ copies_in factors
   pub doubled : 2 ^ depth ≤ copies
 
 -- a loop of this factor stands inside so many, with so many copies: where there is room, so many loops are round what is in it
-abbrev pub GoesInside : (depth copies factor inner_depth inner_copies : ℕ) → Type 0
-GoesInside depth copies factor inner_depth inner_copies =
-    (factors : List ℕ) → IsRound factors depth copies → copies_in (factors_inside factors factor) ≤ most_copies → IsRound (factors_inside factors factor) inner_depth inner_copies
+abbrev pub LoopStandsInside : (depth copies factor inner_depth inner_copies : ℕ) → Type 0
+LoopStandsInside depth copies factor inner_depth inner_copies =
+    (factors : List ℕ) → IsLoopNest factors depth copies → copies_in (factors_inside factors factor) ≤ most_copies → IsLoopNest (factors_inside factors factor) inner_depth inner_copies
 
 -- each variable has few copies
 abbrev pub AreFew : List Declaration → Type 0
@@ -30,13 +30,13 @@ AreFew ds = AllByRecursion (λ d. copies_in d.factors ≤ most_copies) ds
 
 -- the declarations of a command, a block that may lack, and parts are listed, where they have few copies
 abbrev pub Declares : (old new : List Declared) → (depth copies : ℕ) → Command → Type 0
-Declares old new depth copies c = (factors : List ℕ) → IsRound factors depth copies → AreFew (declarations factors (action_seen c)) → new ≡ old ++ map declared_of (declarations factors (action_seen c))
+Declares old new depth copies c = (factors : List ℕ) → IsLoopNest factors depth copies → AreFew (declarations factors (action_seen c)) → new ≡ old ++ map declared_of (declarations factors (action_seen c))
 
 abbrev pub DeclaresOther : (old new : List Declared) → (depth copies : ℕ) → Option (Box Command Global) → Type 0
-DeclaresOther old new depth copies other = (factors : List ℕ) → IsRound factors depth copies → AreFew (other_declarations factors (maybe_seen (option_map (λ b. action_seen b.value) other))) → new ≡ old ++ map declared_of (other_declarations factors (maybe_seen (option_map (λ b. action_seen b.value) other)))
+DeclaresOther old new depth copies other = (factors : List ℕ) → IsLoopNest factors depth copies → AreFew (other_declarations factors (maybe_seen (option_map (λ b. action_seen b.value) other))) → new ≡ old ++ map declared_of (other_declarations factors (maybe_seen (option_map (λ b. action_seen b.value) other)))
 
 abbrev pub DeclaresParts : (old new : List Declared) → (depth copies : ℕ) → List (Vec Command Global) → Type 0
-DeclaresParts old new depth copies parts = (factors : List ℕ) → IsRound factors depth copies → AreFew (groups_declarations factors (groups (map part_seen parts))) → new ≡ old ++ map declared_of (groups_declarations factors (groups (map part_seen parts)))
+DeclaresParts old new depth copies parts = (factors : List ℕ) → IsLoopNest factors depth copies → AreFew (groups_declarations factors (groups (map part_seen parts))) → new ≡ old ++ map declared_of (groups_declarations factors (groups (map part_seen parts)))
 
 -- of each entity its declaration
 abbrev pub AreFound : List Declaration → List (Option Declared) → Type 0
@@ -62,8 +62,8 @@ abbrev pub most_entities : ℕ
 most_entities = 2 ^ 23
 
 -- the slots of variables, one behind the other
-abbrev pub AreLaid : List (Option Declared) → List Held → (count : ℕ) → Type 0
-AreLaid found held count = (ds : List Declaration) → AreFound ds found → (held ≡ all_held ds 0 0 (length found)) × (count ≡ slots_counted ds 0 0 (length found))
+abbrev pub AreLaidSlots : List (Option Declared) → List Held → (count : ℕ) → Type 0
+AreLaidSlots found held count = (ds : List Declaration) → AreFound ds found → (held ≡ all_held ds 0 0 (length found)) × (count ≡ slots_counted ds 0 0 (length found))
 
 -- what is named is one of the first so many entities
 abbrev pub IsNamedBelow : ℕ → Option ℕ → Type 0

@@ -24,7 +24,7 @@ use Rattle.dh_code.specs.declared.spending.Bank.{Bank}
 use Rattle.dh_code.specs.declared.spots.Element.{Element}
 use Rattle.dh_code.specs.declared.spots.Spread.{Spread}
 use Rattle.dh_code.specs.Banks.{AreFirsts, HasBank}
-use Rattle.dh_code.specs.Operated.{IsAccess, IsOperand, IsOperation, Sight, access_spot, events_after, operand_word, operation_events, operation_word, sight, sight_after}
+use Rattle.dh_code.specs.Operated.{IsValidAccess, IsValidOperand, IsOperation, Sight, access_spot, events_after, operand_word, events_of_operation, word_of_operation, sight, sight_after}
 use Rattle.dh_code.specs.declared.codes.Operation.TheVariants.{Read}
 use Rattle.dh_code.specs.Rows.{contents_of, memory_element, spot_seen}
 use Rattle.dh_code.specs.Spent.{HaveSpent}
@@ -41,13 +41,13 @@ AreSmall table memories = (memory position : ℕ) → memory_element memories me
 pub record IsHeld (os : List Operation) (f : Flat) : Type 0 where
   pub within : f.from ≤ f.to
   pub there : f.to ≤ length os
-  pub operand : IsOperand f.value
+  pub operand : IsValidOperand f.value
 
 -- the operations of values stand in code, and they are operands
-pub record AreHeld (os : List Operation) (from to : ℕ) (values : List Kept) : Type 0 where
+pub record AreHeldValues (os : List Operation) (from to : ℕ) (values : List Kept) : Type 0 where
   pub within : from ≤ to
   pub there : to ≤ length os
-  pub operands : AllByRecursion (λ k. IsOperand k.value) values
+  pub operands : AllByRecursion (λ k. IsValidOperand k.value) values
 
 -- a list of commands begins before a number
 abbrev pub IsEarlier : (at : ℕ) → Option ℕ → Type 0
@@ -55,9 +55,9 @@ IsEarlier at None = Unit {0}
 IsEarlier at (Some n) = n < at
 
 abbrev pub IsAction : List MemEntry → List Operation → (at : ℕ) → Action → Type 0
-IsAction table os at (Store f a) = IsHeld os f × IsAccess table a
+IsAction table os at (Store f a) = IsHeld os f × IsValidAccess table a
 IsAction table os at (Assign f first depth) = IsHeld os f
-IsAction table os at (Keep from to values depth) = AreHeld os from to values
+IsAction table os at (Keep from to values depth) = AreHeldValues os from to values
 IsAction table os at (Choose f one two) = IsHeld os f × (IsEarlier at one × IsEarlier at two)
 
 -- a command that can be done, whatever it is the code of
@@ -88,8 +88,8 @@ abbrev pub SpendsMore : {A : Type 0} → Scene → List Bank → Result A Stop �
 SpendsMore s old result new more = (es : List Event) → HaveSpent s.entries.now es s.step old → Spends s.entries.now (es ++ more) s.step result new
 
 -- a read of an element, and a write whatever its value
-abbrev pub read_at : Place → Element → List Event
-read_at place element = reads 0 place [] (spot_seen element) ∷ []
+abbrev pub element_read : Place → Element → List Event
+element_read place element = reads 0 place [] (spot_seen element) ∷ []
 
 abbrev pub SpendsWrite : {A : Type 0} → Scene → List Bank → Result A Stop → List Bank → Place → Element → Type 0
 SpendsWrite s old result new place element =
@@ -99,13 +99,13 @@ abbrev pub spread_spot : (memory : ℕ) → Spread → Spot
 spread_spot memory p = record { memory = memory; bank = p.bank; row = p.row; position = p.position }
 
 -- the element of a memory that lies there
-abbrev pub placed : (memory : ℕ) → Spread → Element
-placed memory p = record { memory = memory; bank = p.bank; row = p.row; position = p.position }
+abbrev pub spread_element : (memory : ℕ) → Spread → Element
+spread_element memory p = record { memory = memory; bank = p.bank; row = p.row; position = p.position }
 
 -- an access leads there, or is out of range
-abbrev pub LeadsTo : Scene → Sight → Access → Option Spread → Type 0
-LeadsTo s w a None = access_spot (begun_in s) w a ≡ None
-LeadsTo s w a (Some p) = (access_spot (begun_in s) w a ≡ Some (spread_spot a.memory p)) × HasBank s.entries.now a.memory p.bank
+abbrev pub AccessLeadsTo : Scene → Sight → Access → Option Spread → Type 0
+AccessLeadsTo s w a None = access_spot (begun_in s) w a ≡ None
+AccessLeadsTo s w a (Some p) = (access_spot (begun_in s) w a ≡ Some (spread_spot a.memory p)) × HasBank s.entries.now a.memory p.bank
 
 -- Expressions.
 
@@ -126,16 +126,16 @@ flat_events s w f = events_after (begun_in s) w f.from (flat_operations s.code.n
 -- Operations.
 
 abbrev pub word_in : Scene → Sight → Operation → Word
-word_in s w o = operation_word (begun_in s) w o
+word_in s w o = word_of_operation (begun_in s) w o
 
-abbrev pub events_in : Scene → Sight → Operation → List Event
-events_in s w o = operation_events (begun_in s) w o
+abbrev pub scene_events : Scene → Sight → Operation → List Event
+scene_events s w o = events_of_operation (begun_in s) w o
 
 abbrev pub read_word : Scene → Sight → Access → Word
-read_word s w a = operation_word (begun_in s) w (Read a)
+read_word s w a = word_of_operation (begun_in s) w (Read a)
 
 abbrev pub read_events : Scene → Sight → Access → List Event
-read_events s w a = operation_events (begun_in s) w (Read a)
+read_events s w a = events_of_operation (begun_in s) w (Read a)
 
 -- what operations gave, with what a read gives under its number, and with what any operation gives
 abbrev pub read_given : Scene → (slots given ranks : List ℕ) → (at : ℕ) → Access → List ℕ

@@ -25,11 +25,11 @@ use Rattle.dh_code.specs.declared.running.State.{State}
 use Rattle.dh_code.specs.declared.spots.Element.{Element}
 use Rattle.dh_code.specs.Banks.{all_banks}
 use Rattle.dh_code.specs.Coded.{AreCoded, AreFlat, AreSlotsFrom, AreSlotsOf, IsCoded, IsFlat, IsFlatStore, operands_kept}
-use Rattle.dh_code.specs.Operated.{IsAccess, Sight, operand_word, sight}
+use Rattle.dh_code.specs.Operated.{IsValidAccess, Sight, operand_word, sight}
 use Rattle.dh_code.specs.Plain.{all_plain}
 use Rattle.dh_code.specs.Ranks.{ArePaths, IsPath, ranks_of}
 use Rattle.dh_code.specs.Rows.{contents_of, spot_seen}
-use Rattle.dh_code.specs.Scenes.{AreHeld, IsHeld, Spends, SpendsMore, begun_in, flat_events, flat_sight}
+use Rattle.dh_code.specs.Scenes.{AreHeldValues, IsHeld, Spends, SpendsMore, begun_in, flat_events, flat_sight}
 use Rattle.dh_code.specs.Slots.{Holds, Placing}
 use Rattle.dh_code.specs.Spent.{AreUsedBy, HaveSpent}
 use Rattle.dh_code.specs.Suited.{AreInsideFrom, CanDo, CanDoAll, CanEvaluate, CanEvaluateAll, IsInside, IsSuitedTarget, TargetInside}
@@ -51,9 +51,9 @@ abbrev pub AreWritten : (old new : Vec (Vec ℕ Global) Global) → List Write �
 AreWritten old new ws = contents_of new.items ≡ memories_written ws (contents_of old.items)
 
 -- the slots before changes were made to them, in order
-abbrev pub undone : List Change → List ℕ → List ℕ
-undone [] slots = slots
-undone (c ∷ cs) slots = slice_set (undone cs slots) c.slot c.before
+abbrev pub undone_slots : List Change → List ℕ → List ℕ
+undone_slots [] slots = slots
+undone_slots (c ∷ cs) slots = slice_set (undone_slots cs slots) c.slot c.before
 
 -- a write of a value of the memory's kind
 abbrev pub IsSmallWrite : List MemEntry → Write → Type 0
@@ -69,11 +69,11 @@ pub record IsReadyState (s : Scene) (state : State) : Type 0 where
 -- so many slots as before, and what they held before the step is the same
 pub record KeepsBack (old new : State) : Type 0 where
   pub long : length new.variables.items ≡ length old.variables.items
-  pub back : undone new.changes.items new.variables.items ≡ undone old.changes.items old.variables.items
+  pub back : undone_slots new.changes.items new.variables.items ≡ undone_slots old.changes.items old.variables.items
 
 -- undoing all changes leads to the same slots as before
 abbrev pub GoBackAlike : (old new : State) → Type 0
-GoBackAlike old new = undone new.changes.items new.variables.items ≡ undone old.changes.items old.variables.items
+GoBackAlike old new = undone_slots new.changes.items new.variables.items ≡ undone_slots old.changes.items old.variables.items
 
 -- one slot is set
 abbrev pub IsAssigned : (old new : State) → (slot bits : ℕ) → Type 0
@@ -141,8 +141,8 @@ pub record AreRows (factors : List ℕ) (rows : List (List ℕ)) (numbers : List
   pub inside : ArePaths factors paths
   pub are : ranks_chosen rows numbers ≡ map (ranks_of factors) paths
 
-abbrev pub Assigns : {A : Type 0} → Scene → State → Result A Stop → State → (ranks : List ℕ) → Flat → (first depth : ℕ) → Type 0
-Assigns s old result new ranks f first depth =
+abbrev pub AssignsVariable : {A : Type 0} → Scene → State → Result A Stop → State → (ranks : List ℕ) → Flat → (first depth : ℕ) → Type 0
+AssignsVariable s old result new ranks f first depth =
     (p : Placing) (factors : List ℕ) (path : Path) (deep entity : ℕ) (t : CoreTerm) → AreRanks factors ranks path
     → IsFlat p.held s.entries.now s.code.now t f → AreSlotsOf p.held entity first depth
     → IsInside p factors deep entity → CanEvaluate s.entries.now p factors t
@@ -211,9 +211,9 @@ Parts s old result new rows numbers f =
 
 -- a command that can be done, wherever it stands
 abbrev pub CanBeDone : Scene → Action → Type 0
-CanBeDone s (Store f a) = IsHeld s.code.now.operations f × IsAccess s.entries.now a
+CanBeDone s (Store f a) = IsHeld s.code.now.operations f × IsValidAccess s.entries.now a
 CanBeDone s (Assign f first depth) = IsHeld s.code.now.operations f
-CanBeDone s (Keep from to values depth) = AreHeld s.code.now.operations from to values
+CanBeDone s (Keep from to values depth) = AreHeldValues s.code.now.operations from to values
 CanBeDone s (Choose f one two) = IsHeld s.code.now.operations f
 
 -- a list of commands is done at paths

@@ -7,7 +7,7 @@ use Rattle.dh_code.specs.declared.codes.Operand.{Operand}
 use Rattle.dh_code.specs.declared.codes.Operation.{Operation}
 use Rattle.dh_code.specs.declared.evaluating.Scene.{Scene}
 use Rattle.dh_code.specs.Operated.{Sight, operand_word, sight, with_given}
-use Rattle.dh_code.specs.Scenes.{begun_in, events_in, flat_events, flat_word}
+use Rattle.dh_code.specs.Scenes.{begun_in, scene_events, flat_events, flat_word}
 
 -- the value of an operand, where it is what the operation of a number gave, these bits
 abbrev pub IsGivenBy : Operand → (at bits : ℕ) → Option Word → Type 0
@@ -15,9 +15,9 @@ IsGivenBy o at bits None = Unit {0}
 IsGivenBy o at bits (Some word) = ((w : Sight) → at < length w.given → word ≡ operand_word (sight w.slots (slice_set w.given at bits) w.ranks) o) × IsWord word
 
 -- the value of an operand behind an operation that makes no access
-abbrev pub IsSingle : Scene → Sight → Operand → (at : ℕ) → Operation → Option Word → Type 0
-IsSingle s w o at operation None = Unit {0}
-IsSingle s w o at operation (Some word) = (word ≡ operand_word (with_given (begun_in s) w at operation) o) × ((events_in s w operation ≡ []) × IsWord word)
+abbrev pub IsSingleValue : Scene → Sight → Operand → (at : ℕ) → Operation → Option Word → Type 0
+IsSingleValue s w o at operation None = Unit {0}
+IsSingleValue s w o at operation (Some word) = (word ≡ operand_word (with_given (begun_in s) w at operation) o) × ((scene_events s w operation ≡ []) × IsWord word)
 
 -- the value of an expression that makes no access
 abbrev pub IsWorth : Scene → Sight → Flat → Option Word → Type 0

@@ -11,9 +11,9 @@ ghost use Rattle.dh_value.specs.Operations.{AreIntegers, Suits, binary_of};
 ghost use Rattle.dh_value.specs.Words.{IsInteger, IsWord};
 ghost use Rattle.dh_extents.specs.Extents.{AreDims};
 ghost use Rattle.dh_code.specs.Banks.{HasBank, LiesInRow, first_bank, all_banks};
-ghost use Rattle.dh_code.specs.Operated.{IsAccess, IsOperand, IsOperation, combined_word, converted_word, events_after, kind_of_operand, mask_of, sight};
+ghost use Rattle.dh_code.specs.Operated.{IsValidAccess, IsValidOperand, IsOperation, combined_word, converted_word, events_after, kind_of_operand, mask_of, sight};
 ghost use Rattle.dh_code.specs.Spent.{StayUsed};
-ghost use Rattle.dh_code.specs.Scenes.{IsScene, LeadsTo, ShowsAfter, SpendsMore, begun_in, events_in, one_given, placed, read_at, read_events, read_given};
+ghost use Rattle.dh_code.specs.Scenes.{IsScene, AccessLeadsTo, ShowsAfter, SpendsMore, begun_in, scene_events, one_given, spread_element, element_read, read_events, read_given};
 
 use crate::codes::{Access, Code, Operand, Operation, Target};
 use crate::operands::{View, element_of, mask_at, value_at};
@@ -127,7 +127,7 @@ fn in_row(dims: &[Dim], bank: u64, row: i128) -> Option<Spread>
 
 /// The element of a memory that lies there.
 pub fn element_at(memory: usize, spread: Spread) -> Element
-    ensures { result ≡ placed memory spread }
+    ensures { result ≡ spread_element memory spread }
 {
     Element {
         memory,
@@ -147,8 +147,8 @@ fn reached_otherwise(
     access: &Access,
 ) -> Option<Spread>
     requires scene { IsScene scene.now }
-    requires access { IsAccess scene.now.entries.now access.now }
-    ensures { LeadsTo scene.now (sight slots.now given.now ranks.now) access.now result }
+    requires access { IsValidAccess scene.now.entries.now access.now }
+    ensures { AccessLeadsTo scene.now (sight slots.now given.now ranks.now) access.now result }
 {
     let view = View {
         slots,
@@ -188,8 +188,8 @@ pub fn reached(
     access: &Access,
 ) -> Option<Spread>
     requires scene { IsScene scene.now }
-    requires access { IsAccess scene.now.entries.now access.now }
-    ensures { LeadsTo scene.now (sight slots.now given.now ranks.now) access.now result }
+    requires access { IsValidAccess scene.now.entries.now access.now }
+    ensures { AccessLeadsTo scene.now (sight slots.now given.now ranks.now) access.now result }
 {
     match &access.target {
         Target::Indices { operands } => {
@@ -213,7 +213,7 @@ fn take(scene: &Scene<'_>, banks: &mut [Bank], place: Place, element: Element) -
     requires long { length banks.old ≡ all_banks scene.now.entries.now }
     ensures long { length banks.new ≡ length banks.old }
     ensures used { StayUsed scene.now.step banks.old banks.new }
-    ensures spends { SpendsMore scene.now banks.old result banks.new (read_at place element) }
+    ensures spends { SpendsMore scene.now banks.old result banks.new (element_read place element) }
 {
     let at = bank_at(scene, element);
     let ports = scene.entries[element.memory].shape.ports;
@@ -236,7 +236,7 @@ fn read(
     access: &Access,
 ) -> Result<(), Stop>
     requires scene { IsScene scene.now }
-    requires access { IsAccess scene.now.entries.now access.now }
+    requires access { IsValidAccess scene.now.entries.now access.now }
     requires long { length banks.old ≡ all_banks scene.now.entries.now }
     ensures long { length banks.new ≡ length banks.old }
     ensures used { StayUsed scene.now.step banks.old banks.new }
@@ -326,8 +326,8 @@ pub fn combined_otherwise(
     left: &Operand,
     right: &Operand,
 ) -> u64
-    requires left { IsOperand left.now }
-    requires right { IsOperand right.now }
+    requires left { IsValidOperand left.now }
+    requires right { IsValidOperand right.now }
     requires suits { Suits op (kind_of_operand left.now) (kind_of_operand right.now) }
     ensures { result ≡
         (combined_word (sight slots.now given.now ranks.now) op left.now right.now).bits }
@@ -353,8 +353,8 @@ fn combined(
     left: &Operand,
     right: &Operand,
 ) -> u64
-    requires left { IsOperand left.now }
-    requires right { IsOperand right.now }
+    requires left { IsValidOperand left.now }
+    requires right { IsValidOperand right.now }
     requires suits { Suits op (kind_of_operand left.now) (kind_of_operand right.now) }
     ensures { result ≡
         (combined_word (sight slots.now given.now ranks.now) op left.now right.now).bits }
@@ -390,7 +390,7 @@ fn combined(
 /// The bits of an operand in an integer kind.
 fn converted(slots: &[u64], given: &[u64], ranks: &[u32], from: &Operand, to: Kind) -> u64
     requires to { IsInteger to }
-    requires from { IsOperand from.now }
+    requires from { IsValidOperand from.now }
     ensures { result ≡
         (converted_word (sight slots.now given.now ranks.now) from.now to).bits }
 {
@@ -430,7 +430,7 @@ fn perform(
     ensures gives { IfOk result (λ _. given.new
         ≡ one_given scene.now slots.now given.old ranks.now at operation.now) }
     ensures spends { SpendsMore scene.now banks.old result banks.new
-        (events_in scene.now (sight slots.now given.old ranks.now) operation.now) }
+        (scene_events scene.now (sight slots.now given.old ranks.now) operation.now) }
 {
     match operation {
         Operation::Binary { op, left, right } => {

@@ -226,7 +226,7 @@ fn add_read(names: &Names<'_>, code: &mut Code, access: Access) -> Result<Operan
 }
 
 /// Whether two kinds are one.
-fn is_same(a: Kind, b: Kind) -> bool
+pub fn is_same(a: Kind, b: Kind) -> bool
     ensures { result ≡ same_kind a b }
 {
     match (a, b) {

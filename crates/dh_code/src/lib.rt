@@ -19,8 +19,8 @@ mod worths;
 
 pub use codes::{Code, Flat};
 pub use evaluating::{Scene, Stop};
-pub use flattening::{Names, first_hidden, flat, flatten_commands, memory_of, way_of};
-pub use operands::slot;
+pub use flattening::{Names, first_hidden, flat, flatten_commands, is_same, memory_of, way_of};
+pub use operands::{entity_of, extension, kind_found, literal, slot, truth};
 pub use passing::offsets_taken;
 pub use places::{Held, Places, place_all, place_at, place_behind, place_of};
 pub use running::{Change, State, Write, decide, run, set, set_slot, undo, write_all};

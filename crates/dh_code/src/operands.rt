@@ -7,7 +7,7 @@ ghost use Rattle.dh_tree.specs.WiderKinds.{wider as wider_of};
 ghost use Rattle.dh_meaning.specs.Bindings.{kind_or_first};
 ghost use Rattle.dh_meaning.specs.CoreOf.{entity_number};
 ghost use Rattle.dh_meaning.specs.Effects.{bits_of};
-ghost use Rattle.dh_code.specs.Operated.{IsOperand, kind_of_operand, mask_of, operand_word, view_seen};
+ghost use Rattle.dh_code.specs.Operated.{IsValidOperand, kind_of_operand, mask_of, operand_word, view_seen};
 ghost use Rattle.dh_code.specs.Extended.{extension_of};
 ghost use Rattle.dh_code.specs.Rows.{contents_of, memory_element};
 
@@ -171,7 +171,7 @@ pub fn whole(word: Word) -> u64
 
 /// The bits that a value of an operand's kind can have.
 pub fn mask_at(operand: &Operand) -> u64
-    requires { IsOperand operand.now }
+    requires { IsValidOperand operand.now }
     ensures { result ≡ mask_of (kind_of_operand operand.now) }
 {
     match operand {
@@ -183,7 +183,7 @@ pub fn mask_at(operand: &Operand) -> u64
 
 /// The value of an operand.
 pub fn value_at(view: &View<'_>, operand: &Operand) -> Word
-    requires { IsOperand operand.now }
+    requires { IsValidOperand operand.now }
     ensures value { result ≡ operand_word (view_seen view.now) operand.now }
     ensures word { IsWord result }
     ensures kind { result.kind ≡ kind_of_operand operand.now }

@@ -9,7 +9,7 @@ ghost use Rattle.dh_meaning.specs.Effects.{indices_through};
 ghost use Rattle.dh_viewing.specs.Numbers.{numbers_in};
 ghost use Rattle.dh_ways.specs.Leading.{StepsLead, next_dims, offsets_on};
 ghost use Rattle.dh_code.specs.Banks.{IsSpread, Spreads};
-ghost use Rattle.dh_code.specs.Operated.{IsOperand, index_values, view_seen};
+ghost use Rattle.dh_code.specs.Operated.{IsValidOperand, index_values, view_seen};
 ghost use Rattle.dh_code.specs.Passing.{LeadAlike, SpreadsBehind, StepsFit, steps_of};
 ghost use Rattle.dh_code.specs.Passed.{PassesTo};
 
@@ -45,7 +45,7 @@ fn listed(numbers: &Index) -> &[i128]
 
 /// The values of operands, as whole numbers.
 fn numbers_of(view: &View<'_>, operands: &[Operand]) -> Index
-    requires operands { AllByRecursion IsOperand operands.now }
+    requires operands { AllByRecursion IsValidOperand operands.now }
     requires few { length operands.now ≤ 6 }
     ensures values { numbers_in result ≡ index_values (view_seen view.now) operands.now }
     ensures long { result.len ≡ length operands.now }
@@ -88,7 +88,7 @@ pub fn offsets_taken(link: &ViewMap) -> usize
 /// The offsets of a view; of one that does not move numbers that tell nothing.
 fn offset_of(view: &View<'_>, link: &ViewMap, own: &[Operand]) -> Index
     requires map { IsViewMap link.now }
-    requires operands { AllByRecursion IsOperand own.now }
+    requires operands { AllByRecursion IsValidOperand own.now }
     requires own { length own.now ≡ offsets_needed link.now.sort link.now.parent.dims }
     ensures through { LeadAlike link.now
         (numbers_in result) (index_values (view_seen view.now) own.now) }
@@ -114,7 +114,7 @@ fn pass(
     requires lead { StepsLead (steps_of links.now) _dims.now }
     requires named { named.len ≡ length (next_dims (steps_of links.now) _dims.now) }
     requires offsets { length offsets.now ≡ offsets_on (steps_of links.now) }
-    requires operands { AllByRecursion IsOperand offsets.now }
+    requires operands { AllByRecursion IsValidOperand offsets.now }
     ensures { PassesTo _dims.now (indices_through (steps_of links.now) (numbers_in named)
         (index_values (view_seen view.now) offsets.now)) result }
 {
@@ -169,7 +169,7 @@ pub fn locate_through(
     requires dims { AreDims dims.now }
     requires few { length dims.now ≤ 6 }
     requires fits { StepsFit dims.now (steps_of links.now) count (length operands.now) }
-    requires operands { AllByRecursion IsOperand operands.now }
+    requires operands { AllByRecursion IsValidOperand operands.now }
     ensures spreads { SpreadsBehind dims.now (indices_through (steps_of links.now)
         (take count (index_values (view_seen view.now) operands.now))
         (drop count (index_values (view_seen view.now) operands.now))) result }

@@ -6,7 +6,7 @@ ghost use Rattle.dh_tree.specs.Seen.{action_seen, term_seen};
 ghost use Rattle.dh_meaning.specs.Bindings as bindings;
 ghost use Rattle.dh_tree.specs.Kinds.{iterator_kind};
 ghost use Rattle.dh_meaning.specs.CoreOf.{entity_number};
-ghost use Rattle.dh_code.specs.Placed.{AreFew, AreFewHidden, AreLaid, ArePlaces, Declares, DeclaresOther, DeclaresParts, GoesInside, KeepsFound, copies_held, has_few, held_of, hidden_as, most_entities};
+ghost use Rattle.dh_code.specs.Placed.{AreFew, AreFewHidden, AreLaidSlots, ArePlaces, Declares, DeclaresOther, DeclaresParts, LoopStandsInside, KeepsFound, copies_held, has_few, held_of, hidden_as, most_entities};
 ghost use Rattle.dh_code.specs.Declarations.{declarations};
 ghost use Rattle.dh_code.specs.Slots.{held_at};
 
@@ -75,7 +75,7 @@ fn iterator_kind(declared: Option<Kind>) -> Kind
 /// How many loops there are inside one more, and how many copies they have; one of a single copy
 /// adds none. Each stays at its type's greatest number, to which no loops within the limit come.
 fn inside(depth: u32, copies: u64, factor: u64) -> (u32, u64)
-    ensures { GoesInside depth copies factor result.0 result.1 }
+    ensures { LoopStandsInside depth copies factor result.0 result.1 }
 {
     if factor <= 1 {
         (depth, copies)
@@ -227,7 +227,7 @@ fn copies_of(variable: Option<Declared>) -> u64
 fn laid(alloc: Global, found: &[Option<Declared>]) -> Result<Places, NoMemory>
     requires few { AllByRecursion has_few found.now }
     requires entities { length found.now ≤ most_entities }
-    ensures { IfOk result (λ places. AreLaid found.now places.held.items places.count) }
+    ensures { IfOk result (λ places. AreLaidSlots found.now places.held.items places.count) }
 {
     let mut places = Vec::new(alloc);
     let mut count = 0;

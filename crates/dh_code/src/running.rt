@@ -5,11 +5,11 @@ ghost use Rattle.std.specs.List.{AllByRecursion};
 ghost use Rattle.dh_value.specs.Words.{IsWord};
 ghost use Rattle.dh_code.specs.declared.codes.Action.TheVariants.{Assign, Choose, Keep, Store};
 ghost use Rattle.dh_code.specs.Banks.{HasBank, all_banks};
-ghost use Rattle.dh_code.specs.Operated.{IsAccess, IsOperand};
+ghost use Rattle.dh_code.specs.Operated.{IsValidAccess, IsValidOperand};
 ghost use Rattle.dh_code.specs.Rows.{contents_of};
-ghost use Rattle.dh_code.specs.Scenes.{AreHeld, IsHeld, IsScene, LeadsTo, SpendsWrite};
+ghost use Rattle.dh_code.specs.Scenes.{AreHeldValues, IsHeld, IsScene, AccessLeadsTo, SpendsWrite};
 ghost use Rattle.dh_code.specs.Spent.{StayUsed};
-ghost use Rattle.dh_code.specs.States.{AreWritten, Assigns, CanBeDone, Decides, DoesAll, DoesOne, GoBackAlike, IsAside, IsAssigned, IsReadyState, KeepsAll, KeepsBack, KeepsSlots, KeepsVariables, Parts, Puts, SetsKept, ShowsFlat, SpendsFlat, Stores, bits_found, sight_in, undone};
+ghost use Rattle.dh_code.specs.States.{AreWritten, AssignsVariable, CanBeDone, Decides, DoesAll, DoesOne, GoBackAlike, IsAside, IsAssigned, IsReadyState, KeepsAll, KeepsBack, KeepsSlots, KeepsVariables, Parts, Puts, SetsKept, ShowsFlat, SpendsFlat, Stores, bits_found, sight_in, undone_slots};
 
 use crate::codes::{Access, Action, Flat, Kept, Operand};
 use crate::evaluating::{
@@ -180,7 +180,7 @@ fn assign_any(
     requires held { IsHeld scene.now.code.now.operations value.now }
     ensures ready { IsReadyState scene.now state.new }
     ensures back { KeepsBack state.old state.new }
-    ensures ran { Assigns scene.now state.old result state.new ranks.now value.now first depth }
+    ensures ran { AssignsVariable scene.now state.old result state.new ranks.now value.now first depth }
 {
     evaluate(scene, state, ranks, value)?;
     let word = value_in(state, ranks, &value.value);
@@ -202,7 +202,7 @@ fn assign(
     requires held { IsHeld scene.now.code.now.operations value.now }
     ensures ready { IsReadyState scene.now state.new }
     ensures back { KeepsBack state.old state.new }
-    ensures ran { Assigns scene.now state.old result state.new ranks.now value.now first depth }
+    ensures ran { AssignsVariable scene.now state.old result state.new ranks.now value.now first depth }
 {
     match plain_value(scene, state, ranks, value) {
         Some(word) => {
@@ -215,7 +215,7 @@ fn assign(
 
 /// Adds what operands show, modulo 2^64, as a state sees them at a path of these ranks.
 fn find(state: &State, ranks: &[u32], values: &[Kept], found: &mut Vec<u64>) -> Result<(), NoMemory>
-    requires operands { AllByRecursion (λ k. IsOperand k.value) values.now }
+    requires operands { AllByRecursion (λ k. IsValidOperand k.value) values.now }
     ensures { OnOk result (found.new.items
         ≡ found.old.items ++ bits_found state.now ranks.now values.now) }
 {
@@ -261,7 +261,7 @@ fn keep(
 ) -> Result<(), Stop>
     requires scene { IsScene scene.now }
     requires ready { IsReadyState scene.now state.old }
-    requires held { AreHeld scene.now.code.now.operations range.0 range.1 values.now }
+    requires held { AreHeldValues scene.now.code.now.operations range.0 range.1 values.now }
     ensures ready { IsReadyState scene.now state.new }
     ensures back { KeepsBack state.old state.new }
     ensures ran { KeepsAll scene.now state.old result state.new ranks.now range.0 range.1
@@ -328,8 +328,8 @@ fn put(
 /// range.
 fn reached_in(scene: &Scene<'_>, state: &State, ranks: &[u32], access: &Access) -> Option<Spread>
     requires scene { IsScene scene.now }
-    requires access { IsAccess scene.now.entries.now access.now }
-    ensures { LeadsTo scene.now (sight_in state.now ranks.now) access.now result }
+    requires access { IsValidAccess scene.now.entries.now access.now }
+    ensures { AccessLeadsTo scene.now (sight_in state.now ranks.now) access.now result }
 {
     reached(
         scene,
@@ -352,7 +352,7 @@ fn store(
     requires scene { IsScene scene.now }
     requires ready { IsReadyState scene.now state.old }
     requires held { IsHeld scene.now.code.now.operations value.now }
-    requires access { IsAccess scene.now.entries.now access.now }
+    requires access { IsValidAccess scene.now.entries.now access.now }
     ensures ready { IsReadyState scene.now state.new }
     ensures back { KeepsBack state.old state.new }
     ensures ran { Stores scene.now state.old result state.new ranks.now value.now access.now }
@@ -483,7 +483,7 @@ fn keep_all(
 ) -> Result<(), Stop>
     requires scene { IsScene scene.now }
     requires ready { IsReadyState scene.now state.old }
-    requires held { AreHeld scene.now.code.now.operations range.0 range.1 values.now }
+    requires held { AreHeldValues scene.now.code.now.operations range.0 range.1 values.now }
     ensures ready { IsReadyState scene.now state.new }
     ensures back { KeepsBack state.old state.new }
     ensures ran { DoesOne scene.now state.old result state.new (contents_of rows.now) paths.now
@@ -517,7 +517,7 @@ fn store_at(
     requires scene { IsScene scene.now }
     requires ready { IsReadyState scene.now state.old }
     requires held { IsHeld scene.now.code.now.operations value.now }
-    requires access { IsAccess scene.now.entries.now access.now }
+    requires access { IsValidAccess scene.now.entries.now access.now }
     requires one { length paths.now ≡ 1 }
     ensures ready { IsReadyState scene.now state.new }
     ensures back { KeepsBack state.old state.new }
@@ -540,7 +540,7 @@ fn store_all(
     requires scene { IsScene scene.now }
     requires ready { IsReadyState scene.now state.old }
     requires held { IsHeld scene.now.code.now.operations value.now }
-    requires access { IsAccess scene.now.entries.now access.now }
+    requires access { IsValidAccess scene.now.entries.now access.now }
     ensures ready { IsReadyState scene.now state.new }
     ensures back { KeepsBack state.old state.new }
     ensures ran { DoesOne scene.now state.old result state.new (contents_of rows.now) paths.now
@@ -747,7 +747,7 @@ pub fn run(
 
 /// Takes changes back, the last one first.
 pub fn undo(variables: &mut [u64], changes: &[Change])
-    ensures { variables.new ≡ undone changes.now variables.old }
+    ensures { variables.new ≡ undone_slots changes.now variables.old }
 {
     for i in (0..changes.len()).rev() {
         set_number(variables, changes[i].slot, changes[i].before);

@@ -4,8 +4,8 @@ ghost use Rattle.std.specs.Prelude.{◌≡◌, ℕ, ◌<◌, ◌≤◌, ◌-◌,
 ghost use Rattle.std.specs.List.{AllByRecursion};
 ghost use Rattle.dh_value.specs.Words.{IsWidth, IsWord, value_of};
 ghost use Rattle.dh_extents.specs.Extents.{AreDims};
-ghost use Rattle.dh_code.specs.Banks.{HasRoom, IsSpread, Spreads, index_within, spread_behind};
-ghost use Rattle.dh_code.specs.Operated.{IsOperand, index_values, view_seen};
+ghost use Rattle.dh_code.specs.Banks.{SpreadHasRoom, IsSpread, Spreads, index_within, spread_behind};
+ghost use Rattle.dh_code.specs.Operated.{IsValidOperand, index_values, view_seen};
 
 use crate::codes::Operand;
 use crate::operands::{View, value_at};
@@ -120,7 +120,7 @@ fn rows_behind(row: u64, dim: &Dim) -> u64
 /// Where an index of the next dimension leads, from where those before it led.
 pub fn next_spread(spread: Spread, dim: &Dim, index: u64) -> Spread
     requires some { 1 ≤ dim.now.banks }
-    requires room { HasRoom spread dim.now index }
+    requires room { SpreadHasRoom spread dim.now index }
     ensures { result ≡ spread_behind spread dim.now index }
 {
     let (outer, inner) = divided(index, dim.banks);
@@ -135,7 +135,7 @@ pub fn next_spread(spread: Spread, dim: &Dim, index: u64) -> Spread
 #[inline(always)]
 pub fn locate(view: &View<'_>, dims: &[Dim], indices: &[Operand]) -> Option<Spread>
     requires dims { AreDims dims.now }
-    requires operands { AllByRecursion IsOperand indices.now }
+    requires operands { AllByRecursion IsValidOperand indices.now }
     ensures spreads { Spreads dims.now (index_values (view_seen view.now) indices.now) result }
     ensures within { IsSpread dims.now result }
 {

@@ -3,10 +3,10 @@
 ghost use Rattle.std.specs.Prelude.{◌≡◌, ◌<◌, length};
 ghost use Rattle.dh_value.specs.Operations.{Suits};
 ghost use Rattle.dh_value.specs.Words.{IsWord};
-ghost use Rattle.dh_code.specs.Operated.{IsOperand, IsOperation, combined_word, kind_of_operand, operand_word};
+ghost use Rattle.dh_code.specs.Operated.{IsValidOperand, IsOperation, combined_word, kind_of_operand, operand_word};
 ghost use Rattle.dh_code.specs.Scenes.{IsHeld, IsScene};
 ghost use Rattle.dh_code.specs.States.{IsReadyState, sight_in};
-ghost use Rattle.dh_code.specs.Worths.{IsGivenBy, IsSingle, IsWorth};
+ghost use Rattle.dh_code.specs.Worths.{IsGivenBy, IsSingleValue, IsWorth};
 
 use crate::codes::{Flat, Operand, Operation};
 use crate::evaluating::{Scene, combined_otherwise, operated};
@@ -16,7 +16,7 @@ use dh_value::{Op, Word};
 
 /// The value of an operand, as a state sees it at a path of these ranks.
 pub fn value_in(state: &State, ranks: &[u32], operand: &Operand) -> Word
-    requires { IsOperand operand.now }
+    requires { IsValidOperand operand.now }
     ensures value { result ≡ operand_word (sight_in state.now ranks.now) operand.now }
     ensures word { IsWord result }
     ensures kind { result.kind ≡ kind_of_operand operand.now }
@@ -33,8 +33,8 @@ pub fn value_in(state: &State, ranks: &[u32], operand: &Operand) -> Word
 /// ranks.
 #[inline(never)]
 fn combined_apart(state: &State, ranks: &[u32], op: Op, left: &Operand, right: &Operand) -> u64
-    requires left { IsOperand left.now }
-    requires right { IsOperand right.now }
+    requires left { IsValidOperand left.now }
+    requires right { IsValidOperand right.now }
     requires suits { Suits op (kind_of_operand left.now) (kind_of_operand right.now) }
     ensures { result ≡
         (combined_word (sight_in state.now ranks.now) op left.now right.now).bits }
@@ -54,8 +54,8 @@ fn combined_apart(state: &State, ranks: &[u32], op: Op, left: &Operand, right: &
 /// look at signs and widths stand apart.)
 #[inline(never)]
 fn combined_in(state: &State, ranks: &[u32], op: Op, left: &Operand, right: &Operand) -> u64
-    requires left { IsOperand left.now }
-    requires right { IsOperand right.now }
+    requires left { IsValidOperand left.now }
+    requires right { IsValidOperand right.now }
     requires suits { Suits op (kind_of_operand left.now) (kind_of_operand right.now) }
     ensures { result ≡
         (combined_word (sight_in state.now ranks.now) op left.now right.now).bits }
@@ -87,7 +87,7 @@ fn combined_in(state: &State, ranks: &[u32], op: Op, left: &Operand, right: &Ope
 /// another.
 #[inline(always)]
 fn given_by(operand: &Operand, at: usize, given: u64) -> Option<Word>
-    requires { IsOperand operand.now }
+    requires { IsValidOperand operand.now }
     ensures { IsGivenBy operand.now at given result }
 {
     match operand {
@@ -122,9 +122,9 @@ fn single_value(
     operation: &Operation,
 ) -> Option<Word>
     requires operation { IsOperation _scene.now.entries.now operation.now }
-    requires operand { IsOperand operand.now }
+    requires operand { IsValidOperand operand.now }
     requires room { at < length state.now.given.items }
-    ensures { IsSingle _scene.now (sight_in state.now ranks.now) operand.now at operation.now
+    ensures { IsSingleValue _scene.now (sight_in state.now ranks.now) operand.now at operation.now
         result }
 {
     match operation {

@@ -13,12 +13,12 @@ use Rattle.dh_expressions.specs.Shown.{guard_of, guard_or_none}
 use Rattle.dh_expressions.proofs.ListPlaces.{some_same, there}
 use Rattle.dh_expressions.proofs.Pushing.{at_seam, begun_later, extends_again, extends_self, fits_before, in_front}
 use Rattle.dh_commands.specs.LanesRun.{comes_out}
-use Rattle.dh_commands.specs.Choosing.{IsQuiet, MakesGuard, MakesGuards}
+use Rattle.dh_commands.specs.Choosing.{TellsNothing, MakesGuard, MakesGuards}
 
-pub quiet_self : (d : Draft) → IsQuiet d d
+pub quiet_self : (d : Draft) → TellsNothing d d
 quiet_self d = record { extends = extends_self d; quiet = λ x f b. refl }
 
-pub quiet_again : (a b c : Draft) → IsQuiet a b → IsQuiet b c → IsQuiet a c
+pub quiet_again : (a b c : Draft) → TellsNothing a b → TellsNothing b c → TellsNothing a c
 quiet_again a b c h k = record {
   extends = extends_again a b c h.extends k.extends;
   quiet = λ x f s. k.quiet x f (begun_later a b x h.extends s) ∙ h.quiet x (fits_before b c x k.extends f) s;

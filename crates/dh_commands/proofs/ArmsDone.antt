@@ -25,7 +25,7 @@ use Rattle.dh_commands.specs.declared.assignments.Values.{Values}
 use Rattle.dh_commands.specs.declared.buildings.Building.{Building}
 use Rattle.dh_commands.specs.declared.choices.Left.{Left}
 use Rattle.dh_commands.specs.LanesRun.{IsArm, comes_out, is_on_at, path_in, paths_counted, paths_on}
-use Rattle.dh_commands.specs.ShownVariables.{HasOwnCopies, IsSeen, ShowsAt, register_in, seen_path}
+use Rattle.dh_commands.specs.ShownVariables.{HasOwnCopies, IsSeen, ShowsVariableAt, register_in, seen_path}
 use Rattle.dh_commands.specs.Undone.{AreReady, Changes, IsChange}
 use Rattle.dh_commands.specs.Followed.{Follows, KeepsDeep, Sets, effect_of, view_at_step}
 use Rattle.dh_commands.specs.Done.{StandsBeside}
@@ -84,7 +84,7 @@ own_in_arm scene around arm x holds test h entity own = record {
 -- what stands of an arm's paths, before it
 pub record Halfway (scene : Scene) (around : Around) (x : BlockStep) (reads : StepReads) (truths : Path → Bool) (holds : Bool) (b : Building) (e : Effect) : Type 0 where
   pub knows : (variables : Variables) → Knows (view_at_step x reads variables) b.accesses
-  pub shows : (entity j : ℕ) → IsSeen scene around.levels.now entity → j < paths_counted around → is_on_at x around j ≡ true → truths (path_in around j) ≡ holds → ShowsAt scene around x b.values.current.items e.variables entity j
+  pub shows : (entity j : ℕ) → IsSeen scene around.levels.now entity → j < paths_counted around → is_on_at x around j ≡ true → truths (path_in around j) ≡ holds → ShowsVariableAt scene around x b.values.current.items e.variables entity j
   pub tells : tale x b.draft ≡ tales_told e.events
   pub room : (entity number : ℕ) → IsSeen scene around.levels.now entity → number < paths_counted around → register_in scene around entity number < length b.values.current.items
   pub ready : AreReady b.values
@@ -170,7 +170,7 @@ module _ (scene : Scene) (around : Around) (tests : List ℕ) (holds : Bool) (a 
       pub ends_tells : tale x new.draft ≡ tales_told after.events
       ends_tells = ap (λ (d : Draft). tale x d) arm.draft ∙ ends.tells
 
-      pub ends_shows : (entity j : ℕ) → IsSeen scene around.levels.now entity → j < paths_counted around → is_on_at x around j ≡ true → truths (path_in around j) ≡ holds → ShowsAt scene around x inside.values.current.items after.variables entity j
+      pub ends_shows : (entity j : ℕ) → IsSeen scene around.levels.now entity → j < paths_counted around → is_on_at x around j ≡ true → truths (path_in around j) ≡ holds → ShowsVariableAt scene around x inside.values.current.items after.variables entity j
       ends_shows entity j there l on is =
           sym (shown_same scene around arm.arm x holds truths is_arm (counter_of scene entity) (held_at scene.held.now entity) inside.values.current.items (held_at scene.held.now entity).kind j)
           ∙ (ends.shows.each entity j (down entity there) (within_arm j l)

@@ -17,7 +17,7 @@ use Rattle.dh_commands.specs.declared.assignments.Values.{Values}
 use Rattle.dh_commands.specs.declared.choices.Choice.{Choice}
 use Rattle.dh_commands.specs.declared.choices.Left.{Left}
 use Rattle.dh_commands.specs.LanesRun.{is_on_at, lane_of, path_in, paths_counted}
-use Rattle.dh_commands.specs.ShownVariables.{HasOwnCopies, IsSeen, ShowsVariables, ShowsAt, register_in}
+use Rattle.dh_commands.specs.ShownVariables.{HasOwnCopies, IsSeen, ShowsVariables, ShowsVariableAt, register_in}
 use Rattle.dh_commands.specs.Undone.{first_left, lefts_of, value_left}
 use Rattle.dh_commands.specs.Joined.{AreChoices, IsLeft}
 use Rattle.dh_commands.specs.Choosing.{Chooses, behind_shown, test_shown}
@@ -147,14 +147,14 @@ module _ (scene : Scene) (around : Around) (May : ℕ → Type 0) (x : BlockStep
 
   -- variables show what they hold, where they did as the arm ended that was done there
   pub joined_shows : (variables : Variables)
-      → ((e j : ℕ) → IsSeen scene around.levels.now e → j < paths_counted around → is_on_at x around j ≡ true → truths (path_in around j) ≡ true → ShowsAt scene around x one variables e j)
-      → ((e j : ℕ) → IsSeen scene around.levels.now e → j < paths_counted around → is_on_at x around j ≡ true → truths (path_in around j) ≡ false → ShowsAt scene around x two variables e j)
+      → ((e j : ℕ) → IsSeen scene around.levels.now e → j < paths_counted around → is_on_at x around j ≡ true → truths (path_in around j) ≡ true → ShowsVariableAt scene around x one variables e j)
+      → ((e j : ℕ) → IsSeen scene around.levels.now e → j < paths_counted around → is_on_at x around j ≡ true → truths (path_in around j) ≡ false → ShowsVariableAt scene around x two variables e j)
       → ShowsVariables scene around x after.current.items variables
   joined_shows variables shows_one shows_two = record { each = λ e j there_e inside on. by e j there_e inside on (truths (path_in around j)) refl (picks e j there_e inside on) }
     where
       by : (e j : ℕ) → IsSeen scene around.levels.now e → j < paths_counted around → is_on_at x around j ≡ true → (b : Bool) → truths (path_in around j) ≡ b
           → variable_shown x after.current.items (register_in scene around e j) ≡ variable_shown x (if truths (path_in around j) then one else two) (register_in scene around e j)
-          → ShowsAt scene around x after.current.items variables e j
+          → ShowsVariableAt scene around x after.current.items variables e j
       by e j there_e inside on true is picks_here =
           shown_alike x (counter_of scene e) (held_at scene.held.now e) (lane_of around j) one after.current.items (held_at scene.held.now e).kind
           (picks_here ∙ ap (λ (b : Bool). variable_shown x (if b then one else two) (register_in scene around e j)) is)

@@ -26,7 +26,7 @@ use Rattle.dh_commands.specs.declared.buildings.Building.{Building}
 use Rattle.dh_commands.specs.declared.choices.Choice.{Choice}
 use Rattle.dh_commands.specs.declared.choices.Left.{Left}
 use Rattle.dh_commands.specs.LanesRun.{IsArm, is_on_at, lanes_run, path_in, paths_counted, paths_on}
-use Rattle.dh_commands.specs.ShownVariables.{HasOwnCopies, IsSeen, ShowsVariables, ShowsAt, register_in}
+use Rattle.dh_commands.specs.ShownVariables.{HasOwnCopies, IsSeen, ShowsVariables, ShowsVariableAt, register_in}
 use Rattle.dh_commands.specs.Undone.{AreReady, Changes, HasRoom, IsChange}
 use Rattle.dh_commands.specs.Followed.{Arms, arms_of, Follows, FollowsOther, Sets, SetsOther, effect_of, other_effect, test_out, test_run, view_at_step}
 use Rattle.dh_commands.specs.Joined.{AreChoices, IsLeft, JoinsArms}
@@ -233,9 +233,9 @@ module _ (scene : Scene) (around : Around) (first n1 n2 n3 : ℕ) (t : plain.Ter
       abbrev e2 : Effect
       e2 = effect_of scene x (paths_on x one.arm) n1 chosen e1
 
-      kept1 : (entity j : ℕ) → IsSeen scene around.levels.now entity → j < paths_counted around → is_on_at x around j ≡ true → truths (path_in around j) ≡ false → ShowsAt scene around x b2.values.current.items e2.variables entity j
+      kept1 : (entity j : ℕ) → IsSeen scene around.levels.now entity → j < paths_counted around → is_on_at x around j ≡ true → truths (path_in around j) ≡ false → ShowsVariableAt scene around x b2.values.current.items e2.variables entity j
       kept1 entity j there inside on is =
-          subst (λ (os : List (Option ℕ)). ShowsAt scene around x os e2.variables entity j) (sym (values_one stands.ready).0.current)
+          subst (λ (os : List (Option ℕ)). ShowsVariableAt scene around x os e2.variables entity j) (sym (values_one stands.ready).0.current)
           (stands1.shows.each entity j there inside on
           ∙ ap (λ z. word_of (held_at scene.held.now entity).kind z)
           (sym (ends_kept scene around tests true chosen n1 n2 b1 b2 lefts one does_tests.long some_tests few_one x reads e1 fits2 begun1 truths shown_tests half1 follows1 follows.1.0.chosen_deep (λ i sets. own i (inl sets)) entity j there inside on is)))

@@ -13,7 +13,7 @@ use Rattle.dh_expressions.proofs.Pushing.{begun_later, fits_before}
 use Rattle.dh_commands.specs.declared.assignments.Values.{Values}
 use Rattle.dh_commands.specs.declared.choices.Choice.{Choice}
 use Rattle.dh_commands.specs.Joined.{AreApartChoices}
-use Rattle.dh_commands.specs.Choosing.{Chooses, ChoosesOne, IsOfChoice, behind_shown, choice_shown, test_shown}
+use Rattle.dh_commands.specs.Choosing.{Chooses, ChoosesOne, IsOfChoice, behind_shown, choice_word_shown, test_shown}
 use Rattle.dh_commands.proofs.ArmGuards.{quiet_again, quiet_self}
 use Rattle.dh_commands.proofs.ChangesBack.{logs_again, logs_none, logs_one}
 
@@ -52,7 +52,7 @@ module _ (tests : List ℕ) (choices : List Choice) where
         never p n a b = omega (arith, a, b)
 
         by : AreApartChoices choices → (x : BlockStep) → FitsStep x e → BlockBegun x d → (j : ℕ) (a : Choice) → slice_get choices j ≡ Some a → a.register < length v.current.items → a.path < length tests → j < suc k → (j < k) ⊎ (k ≤ j)
-            → variable_shown x w.current.items a.register ≡ choice_shown x tests v.current.items a
+            → variable_shown x w.current.items a.register ≡ choice_word_shown x tests v.current.items a
         by apart x f b j a at room path few (inl less) = h.picked apart x f b j a less at room path
         by apart x f b j a at room path few (inr more) =
             let is : j ≡ k = omega (arith, few, more) in
@@ -76,19 +76,19 @@ module _ (tests : List ℕ) (choices : List Choice) where
         never n l = omega (arith, l)
 
         by : AreApartChoices choices → (x : BlockStep) → FitsStep x f → BlockBegun x d → (j : ℕ) (a : Choice) → j < suc k → slice_get choices j ≡ Some a → a.register < length v.current.items → a.path < length tests → (j < k) ⊎ (k ≤ j)
-            → variable_shown x u.current.items a.register ≡ choice_shown x tests v.current.items a
+            → variable_shown x u.current.items a.register ≡ choice_word_shown x tests v.current.items a
         by apart x fits begun j a few at room path (inl less) =
             let differ : a.register ≡ c.register → ⊥ = λ same. never k (subst (λ (n : ℕ). n < k) (apart j k a c at at_k same) less) in
             ap (λ o. current_shown x o a.register) (set_at a.register differ) ∙ h.picked apart x (fits_before e f x one.adds.extends fits) begun j a less at room path
         by apart x fits begun j a few at room path (inr more) =
             let is : j ≡ k = omega (arith, few, more) in
             let same : a ≡ c = some_same a c (sym at ∙ (ap (λ n. slice_get choices n) is ∙ at_k)) in
-            subst (λ (b : Choice). variable_shown x u.current.items b.register ≡ choice_shown x tests v.current.items b) (sym same) (own (subst (λ (b : Choice). b.register < length v.current.items) same room))
+            subst (λ (b : Choice). variable_shown x u.current.items b.register ≡ choice_word_shown x tests v.current.items b) (sym same) (own (subst (λ (b : Choice). b.register < length v.current.items) same room))
           where
             untouched : slice_get w.current.items c.register ≡ slice_get v.current.items c.register
             untouched = h.others c.register (λ i b l at_i same. never k (subst (λ (n : ℕ). n < k) (apart i k b c at_i at_k same) l))
 
-            own : c.register < length v.current.items → variable_shown x u.current.items c.register ≡ choice_shown x tests v.current.items c
+            own : c.register < length v.current.items → variable_shown x u.current.items c.register ≡ choice_word_shown x tests v.current.items c
             own room_c =
                 ap (λ o. current_shown x o c.register)
                 (ap (λ (os : List (Option ℕ)). slice_get os c.register) one.assigns.current ∙ set_here w.current.items c.register (Some one.value) (subst (λ (n : ℕ). c.register < n) (sym h.logs.long) room_c))

@@ -29,8 +29,8 @@ use Rattle.dh_commands.specs.declared.buildings.Building.{Building}
 use Rattle.dh_commands.specs.LanesRun.{paths_counted, paths_on}
 use Rattle.dh_commands.specs.ShownVariables.{depth_in}
 use Rattle.dh_commands.specs.Followed.{Along, Arms, no_arms, arms_of, arms_then, FitArms, FitGroups, Follows, FollowsGroups, FollowsView, Sets, effect_of, groups_effect, part_effect, store_run}
-use Rattle.dh_commands.specs.Done.{Does, DoesAll, DoesCommand, IsNext, StandsBeside}
-use Rattle.dh_commands.specs.Setting.{AssignsAll, ClearsAll, IsVariableAmong, KeepsAll, KeepsView, ReducesAll, StoresAll}
+use Rattle.dh_commands.specs.Done.{Does, DoesCommandAtPaths, DoesCommand, IsNextAccess, StandsBeside}
+use Rattle.dh_commands.specs.Setting.{AssignsAll, ClearsAll, IsVariableAmong, KeepsAtAllPaths, KeepsView, ReducesAll, StoresAll}
 use Rattle.dh_commands.specs.Parted.{DoesGroups, SetsGroups}
 use Rattle.dh_commands.proofs.ArmsDone.{changes_wider}
 use Rattle.dh_commands.proofs.ChangesBack.{changes_again, changes_none, ready_after}
@@ -39,7 +39,7 @@ use Rattle.dh_commands.proofs.LanesInOrder.{lanes_are}
 
 -- A command without arms.
 pub as_command : (scene : Scene) (around : Around) (a : Action) (first count next : ℕ) (old new : Building) (May : ℕ → Type 0) (Premise : ℕ → BlockStep → StepReads → Variables → Type 0) (run : BlockStep → Path → Effect → Effect)
-    → DoesAll scene around May Premise run first count next (paths_counted around) old new → accesses_of a ≡ count → FitArms a no_arms → ((entity : ℕ) → May entity → Sets scene a entity)
+    → DoesCommandAtPaths scene around May Premise run first count next (paths_counted around) old new → accesses_of a ≡ count → FitArms a no_arms → ((entity : ℕ) → May entity → Sets scene a entity)
     → ((x : BlockStep) (reads : StepReads) (e : Effect) → Follows scene x reads around no_arms first a e → Along around x reads Premise (run x) e (paths_counted around))
     → ((x : BlockStep) (e : Effect) → at_each (run x) (paths_on x around) e ≡ effect_of scene x (paths_on x around) first a e) → DoesCommand scene around a first next old new
 as_command scene around a first count next old new May Premise run d count_is shaped wider follows runs = record {
@@ -142,7 +142,7 @@ module _ (scene : Scene) (around : Around) (id : ℕ) (place : Place) (first nex
   view_sets : (e : ℕ) → IsVariableAmong h.entity (length (offsets_of form)) e → Sets scene (action id place (views name parent form)) e
   view_sets e among = action_any scene e 0 (action id place (views name parent form)) ∙ (ap (λ hidden. kept_sets e hidden (offsets_of form)) found ∙ kept_sets_them (offsets_of form) e among)
 
-  pub view_done : KeepsAll scene around old new first next h (offsets_of form) → DoesCommand scene around (action id place (views name parent form)) first next old new
+  pub view_done : KeepsAtAllPaths scene around old new first next h (offsets_of form) → DoesCommand scene around (action id place (views name parent form)) first next old new
   view_done d =
       as_command scene around (action id place (views name parent form)) first (plan_accesses form) next old new _ _ _ d (add-zero (plan_accesses form)) tt (λ e among. view_sets e among)
       (λ x reads e p. subst (λ (hidden : List Hidden). FollowsView scene x reads around first hidden (offsets_of form) e) found p)
@@ -158,7 +158,7 @@ view_still scene name parent form id place none n = ap (λ hidden. kept_by hidde
     nothing (term_and t ts) = refl
 
 -- a command that does nothing
-pub nothing_done : (scene : Scene) (around : Around) (a : Action) (first next : ℕ) (b : Building) → IsNext first (accesses_of a) next → FitArms a no_arms → ((n : ℕ) → core_action (known_in scene) n a no_commands ≡ no_commands)
+pub nothing_done : (scene : Scene) (around : Around) (a : Action) (first next : ℕ) (b : Building) → IsNextAccess first (accesses_of a) next → FitArms a no_arms → ((n : ℕ) → core_action (known_in scene) n a no_commands ≡ no_commands)
     → DoesCommand scene around a first next b b
 nothing_done scene around a first next b next_is shaped none = record {
   next_is = λ some few. next_is few;
@@ -239,7 +239,7 @@ module _ (scene : Scene) (around : Around) where
     few_rest : 0 < paths_counted around → Few → n1 + (part_accesses cs + groups_accesses gs) < 2 ^ 32
     few_rest some few = let h = here some few in omega (arith, few, h)
 
-    by : (next_is : 0 < paths_counted around → IsNext n1 (part_accesses cs + groups_accesses gs) next) (arms : Arms) → FitGroups (group_then cs gs) arms
+    by : (next_is : 0 < paths_counted around → IsNextAccess n1 (part_accesses cs + groups_accesses gs) next) (arms : Arms) → FitGroups (group_then cs gs) arms
         → (0 < paths_counted around → n1 + (part_accesses cs + groups_accesses gs) < 2 ^ 32
         → Does scene around (SetsGroups scene (group_then cs gs)) (λ x reads e. FollowsGroups scene x reads around arms n1 (group_then cs gs) e) (λ x e. groups_effect scene x (paths_on x around) n1 (group_then cs gs) e) mid new)
         → DoesGroups scene around All now next old new

@@ -14,7 +14,7 @@ use Rattle.dh_phases.specs.Counted.{behind}
 use Rattle.dh_expressions.specs.declared.scenes.Around.{Around}
 use Rattle.dh_expressions.specs.declared.scenes.Scene.{Scene}
 use Rattle.dh_commands.specs.declared.buildings.Building.{Building}
-use Rattle.dh_commands.specs.MadeCommands.{KeptView, MadeActionForm, MadeCommand, MadeGroups, MadeView, MakesFrom}
+use Rattle.dh_commands.specs.MadeCommands.{KeptView, MadeActionForm, MadeCommand, MadeGroups, MadeView, RestMakesWhole}
 use Rattle.dh_commands.proofs.PartsDone.{drop_past}
 
 pub made_seen : (scene : Scene) (around : Around) (c : Command) (form : ActionForm) (first next : ℕ) (old new : Building) → action_form_seen c.form ≡ form → MadeActionForm scene form around old new first next
@@ -27,21 +27,21 @@ idle_next c form first next is counted = counted ∙ ap (λ (f : ActionForm). be
 
 module _ (scene : Scene) (around : Around) (all : Groups) (first : ℕ) (old : Building) where
   pub makes_command : (cs : List Command) (j : ℕ) (c : Command) (gs : Groups) (now n1 : ℕ) (here behind : Building) → j < length cs → c ≡ get_or cs j c
-      → MadeCommand scene (action_seen c) around here behind now n1 → MakesFrom scene around all (group_then (actions (map action_seen (drop j cs))) gs) first now old here
-      → MakesFrom scene around all (group_then (actions (map action_seen (drop (j + 1) cs))) gs) first n1 old behind
+      → MadeCommand scene (action_seen c) around here behind now n1 → RestMakesWhole scene around all (group_then (actions (map action_seen (drop j cs))) gs) first now old here
+      → RestMakesWhole scene around all (group_then (actions (map action_seen (drop (j + 1) cs))) gs) first n1 old behind
   makes_command cs j c gs now n1 here behind within is made makes next new d =
       makes next new
       (subst (λ (xs : List Command). MadeGroups scene (group_then (actions (map action_seen xs)) gs) around here new now next) (sym (at_item cs j c within is))
       (record { middle = d.middle; own = d.own; one = record { middle = behind; own = n1; one = made; rest = d.one }; rest = d.rest }))
 
-  pub makes_part : (cs : List Command) (j : ℕ) (gs : Groups) (now : ℕ) (here : Building) → length cs ≤ j → MakesFrom scene around all (group_then (actions (map action_seen (drop j cs))) gs) first now old here
-      → MakesFrom scene around all gs first now old here
+  pub makes_part : (cs : List Command) (j : ℕ) (gs : Groups) (now : ℕ) (here : Building) → length cs ≤ j → RestMakesWhole scene around all (group_then (actions (map action_seen (drop j cs))) gs) first now old here
+      → RestMakesWhole scene around all gs first now old here
   makes_part cs j gs now here end makes next new d =
       makes next new
       (subst (λ (xs : List Command). MadeGroups scene (group_then (actions (map action_seen xs)) gs) around here new now next) (sym (drop_past cs j end))
       (record { middle = here; own = now; one = record { still = refl; next_is = refl }; rest = d }))
 
-  pub makes_all : (ps : List (Vec Command Global)) (i : ℕ) (now : ℕ) (here : Building) → length ps ≤ i → MakesFrom scene around all (all_parts_seen (drop i ps)) first now old here → MadeGroups scene all around old here first now
+  pub makes_all : (ps : List (Vec Command Global)) (i : ℕ) (now : ℕ) (here : Building) → length ps ≤ i → RestMakesWhole scene around all (all_parts_seen (drop i ps)) first now old here → MadeGroups scene all around old here first now
   makes_all ps i now here end makes =
       makes now here (subst (λ (xs : List (Vec Command Global)). MadeGroups scene (all_parts_seen xs) around here here now now) (sym (drop_past ps i end)) (record { still = refl; next_is = refl }))
 

@@ -9,7 +9,7 @@ use Rattle.std.proofs.lemmas.Bool.{cases_Bool, eqb-true, eq-eqb}
 use Rattle.std.proofs.lemmas.Bool.Decides.{nat_tests}
 use Rattle.dh_commands.specs.declared.choices.Choice.{Choice}
 use Rattle.dh_commands.specs.declared.choices.Left.{Left}
-use Rattle.dh_commands.specs.Undone.{IsChoice, first_left, value_left}
+use Rattle.dh_commands.specs.Undone.{IsChoiceOfArms, first_left, value_left}
 use Rattle.dh_commands.specs.Joined.{AreChoices, IsLeft, all_unmarked, chosen_marked, chosen_noted, first_choice, is_unmarked, other_marked, other_noted, other_or, other_put, second_choice, with_other}
 use Rattle.dh_expressions.proofs.ListPlaces.{place_of_more, place_within, set_here, set_long, set_other, some_same}
 
@@ -92,7 +92,7 @@ pub record AreMarked (marks : List ℕ) (choices : List Choice) : Type 0 where
 pub record JoinsSoFar (chosen other : List Left) (size : ℕ) (marks : List ℕ) (choices : List Choice) : Type 0 where
   pub long : length marks ≡ size
   pub are_marked : AreMarked marks choices
-  pub are : (k : ℕ) (c : Choice) → slice_get choices k ≡ Some c → IsChoice chosen other c
+  pub are : (k : ℕ) (c : Choice) → slice_get choices k ≡ Some c → IsChoiceOfArms chosen other c
   pub left : (k : ℕ) (c : Choice) → slice_get choices k ≡ Some c
       → (l : Left) × ((l.path ≡ c.path) × ((first_left chosen c.register ≡ Some l) ⊎ (first_left other c.register ≡ Some l)))
   pub all : (register : ℕ) (l : Left) → (first_left chosen register ≡ Some l) ⊎ (first_left other register ≡ Some l) → slice_index marks register ≡ 0 → ⊥
@@ -191,7 +191,7 @@ module _ (chosen other : List Left) (size : ℕ) (marks : List ℕ) (choices : L
 
 -- a choice of the arms then, by what they left of its register
 moved_choice : (chosen other chosen' other' : List Left) (c : Choice) → first_left chosen' c.register ≡ first_left chosen c.register → first_left other' c.register ≡ first_left other c.register
-    → IsChoice chosen other c → IsChoice chosen' other' c
+    → IsChoiceOfArms chosen other c → IsChoiceOfArms chosen' other' c
 moved_choice chosen other chosen' other' c a b h = record { chosen_is = h.chosen_is ∙ ap value_left (sym a); other_is = h.other_is ∙ ap value_left (sym b) }
 
 moved_left : (chosen other chosen' other' : List Left) (register : ℕ) (l : Left) → first_left chosen' register ≡ first_left chosen register → first_left other' register ≡ first_left other register
@@ -202,7 +202,7 @@ moved_left chosen other chosen' other' register l a b (inr e) = inr (b ∙ e)
 -- a register that had no choice has one now
 pub noted_new : (chosen other chosen' other' : List Left) (size : ℕ) (marks : List ℕ) (choices : List Choice) (new : Choice) → JoinsSoFar chosen other size marks choices
     → ((r : ℕ) → (r ≡ new.register → ⊥) → first_left chosen' r ≡ first_left chosen r) → ((r : ℕ) → (r ≡ new.register → ⊥) → first_left other' r ≡ first_left other r)
-    → IsChoice chosen' other' new → (l : Left) × ((l.path ≡ new.path) × ((first_left chosen' new.register ≡ Some l) ⊎ (first_left other' new.register ≡ Some l)))
+    → IsChoiceOfArms chosen' other' new → (l : Left) × ((l.path ≡ new.path) × ((first_left chosen' new.register ≡ Some l) ⊎ (first_left other' new.register ≡ Some l)))
     → new.register < length marks → slice_index marks new.register ≡ 0
     → JoinsSoFar chosen' other' size (slice_set marks new.register (length choices + 1)) (choices ++ new ∷ [])
 noted_new chosen other chosen' other' size marks choices new h one two is left room free = record {
@@ -216,9 +216,9 @@ noted_new chosen other chosen' other' size marks choices new h one two is left r
     differ : (k : ℕ) (c : Choice) → slice_get choices k ≡ Some c → c.register ≡ new.register → ⊥
     differ k c at same = never_both (slice_index marks c.register) k (h.are_marked.marked k c at) (ap (λ r. slice_index marks r) same ∙ free)
 
-    are_now : (k : ℕ) (c : Choice) → (slice_get choices k ≡ Some c) ⊎ ((k ≡ length choices) × (c ≡ new)) → IsChoice chosen' other' c
+    are_now : (k : ℕ) (c : Choice) → (slice_get choices k ≡ Some c) ⊎ ((k ≡ length choices) × (c ≡ new)) → IsChoiceOfArms chosen' other' c
     are_now k c (inl at) = moved_choice chosen other chosen' other' c (one c.register (differ k c at)) (two c.register (differ k c at)) (h.are k c at)
-    are_now k c (inr last) = subst (λ (d : Choice). IsChoice chosen' other' d) (sym last.1) is
+    are_now k c (inr last) = subst (λ (d : Choice). IsChoiceOfArms chosen' other' d) (sym last.1) is
 
     left_now : (k : ℕ) (c : Choice) → (slice_get choices k ≡ Some c) ⊎ ((k ≡ length choices) × (c ≡ new))
         → (l : Left) × ((l.path ≡ c.path) × ((first_left chosen' c.register ≡ Some l) ⊎ (first_left other' c.register ≡ Some l)))
@@ -364,9 +364,9 @@ module _ (chosen other : List Left) (size : ℕ) (marks : List ℕ) (choices : L
     all = λ register m found none. all register m found none (same_or_not l.register register);
   }
     where
-      are : (j : ℕ) (d : Choice) → slice_get now j ≡ Some d → (j ≡ k) ⊎ (j ≡ k → ⊥) → IsChoice chosen (other ++ l ∷ []) d
+      are : (j : ℕ) (d : Choice) → slice_get now j ≡ Some d → (j ≡ k) ⊎ (j ≡ k → ⊥) → IsChoiceOfArms chosen (other ++ l ∷ []) d
       are j d at (inl e) =
-          subst (λ (x : Choice). IsChoice chosen (other ++ l ∷ []) x) (is_here j d e at)
+          subst (λ (x : Choice). IsChoiceOfArms chosen (other ++ l ∷ []) x) (is_here j d e at)
           (record { chosen_is = (h.are k c at_k).chosen_is; other_is = sym (ap value_left last_is) })
       are j d at (inr differ) =
           let old = elsewhere j d differ at in

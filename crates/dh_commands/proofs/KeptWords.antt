@@ -34,7 +34,7 @@ use Rattle.dh_commands.specs.declared.buildings.Building.{Building}
 use Rattle.dh_commands.specs.LanesRun.{paths_counted}
 use Rattle.dh_commands.specs.Keeping.{EvaluatesWords, held_words, kept_shown, paired}
 use Rattle.dh_commands.specs.MadeCommands.{KeptTo, KeptView, MadeHold, MadeHolds}
-use Rattle.dh_commands.specs.Setting.{KeepsAll, KeepsView, SetsAt, SetsFrom}
+use Rattle.dh_commands.specs.Setting.{KeepsAtAllPaths, KeepsView, SetsAt, SetsFrom}
 
 -- the offsets of a suffix are those of its pairs
 pub pairs_are : (by : List (ℕ × Expr)) → map (λ s. s.offset) (map factor_seen by) ≡ paired by
@@ -294,9 +294,9 @@ module _ (scene : Scene) (lane : Lane) (first : ℕ) (kept : List ℕ) where
 
 -- The first variable on a way.
 module _ (scene : Scene) (around : Around) (old new : Building) (first idle next : ℕ) where
-  pub keeps_found : (hs : List Hidden) (h : Hidden) (os : List plain.Term) → Some h ≡ slice_get hs 0 → KeepsAll scene around old new first next h os → KeepsView scene around old new first idle next hs os
+  pub keeps_found : (hs : List Hidden) (h : Hidden) (os : List plain.Term) → Some h ≡ slice_get hs 0 → KeepsAtAllPaths scene around old new first next h os → KeepsView scene around old new first idle next hs os
   keeps_found [] h os is d = absurd cc
-  keeps_found (x ∷ hs) h os is d = subst (λ (k : Hidden). KeepsAll scene around old new first next k os) (some_same h x is) d
+  keeps_found (x ∷ hs) h os is d = subst (λ (k : Hidden). KeepsAtAllPaths scene around old new first next k os) (some_same h x is) d
 
   pub kept_found : (hs : List Hidden) (h : Hidden) (os : List plain.Term) → Some h ≡ slice_get hs 0 → KeptTo scene around first h.entity os (paths_counted around) old new next → KeptView scene around old new first idle next hs os
   kept_found [] h os is d = absurd cc

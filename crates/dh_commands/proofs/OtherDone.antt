@@ -14,7 +14,7 @@ use Rattle.dh_expressions.proofs.Pushing.{extends_self}
 use Rattle.dh_commands.specs.declared.buildings.Building.{Building}
 use Rattle.dh_commands.specs.declared.choices.Left.{Left}
 use Rattle.dh_commands.specs.LanesRun.{IsArm, is_on_at, path_in, paths_counted, paths_on}
-use Rattle.dh_commands.specs.ShownVariables.{HasOwnCopies, IsSeen, ShowsAt, seen_path}
+use Rattle.dh_commands.specs.ShownVariables.{HasOwnCopies, IsSeen, ShowsVariableAt, seen_path}
 use Rattle.dh_commands.specs.Undone.{AreReady}
 use Rattle.dh_commands.specs.Followed.{Arms, no_arms, FitOther, FollowsOther, KeepsDeepOther, SetsOther, effect_of, other_effect, view_at_step}
 use Rattle.dh_commands.specs.Parted.{DoesOther, ShowsTests}
@@ -26,7 +26,7 @@ use Rattle.dh_commands.proofs.LanesInOrder.{arm_paths}
 pub record OtherEnds (scene : Scene) (around : Around) (x : BlockStep) (reads : StepReads) (truths : Path → Bool) (new : Building) (behind : List (Option ℕ)) (e after : Effect) : Type 0 where
   pub knows : (variables : Variables) → Knows (view_at_step x reads variables) new.accesses
   pub tells : tale x new.draft ≡ tales_told after.events
-  pub shows : (entity j : ℕ) → IsSeen scene around.levels.now entity → j < paths_counted around → is_on_at x around j ≡ true → truths (path_in around j) ≡ false → ShowsAt scene around x behind after.variables entity j
+  pub shows : (entity j : ℕ) → IsSeen scene around.levels.now entity → j < paths_counted around → is_on_at x around j ≡ true → truths (path_in around j) ≡ false → ShowsVariableAt scene around x behind after.variables entity j
   pub kept : (entity j : ℕ) → IsSeen scene around.levels.now entity → j < paths_counted around → is_on_at x around j ≡ true → truths (path_in around j) ≡ true
       → after.variables entity (seen_path scene around entity j) ≡ e.variables entity (seen_path scene around entity j)
 

@@ -32,7 +32,7 @@ use Rattle.dh_commands.specs.Followed.{FitArms, no_arms, Sets, view_at_step}
 use Rattle.dh_commands.specs.Choosing.{MakesGuards}
 use Rattle.dh_commands.specs.Done.{DoesCommand}
 use Rattle.dh_commands.specs.Setting.{KeepsView}
-use Rattle.dh_commands.specs.Parted.{DoesArm, DoesGroups, Leads, ShowsTests}
+use Rattle.dh_commands.specs.Parted.{DoesArm, DoesGroups, RestDoesWhole, ShowsTests}
 use Rattle.dh_commands.proofs.CommandsDone.{nothing_done, parts_more, parts_next, parts_none, view_command}
 use Rattle.dh_commands.proofs.Tested.{quiet_stands}
 
@@ -101,20 +101,20 @@ module _ (scene : Scene) (around arm : Around) (tests : List ℕ) (holds : Bool)
 -- The parts of a block.
 module _ (scene : Scene) (around : Around) (all : Groups) (first : ℕ) (old : Building) where
   pub leads_command : (cs : List Command) (j : ℕ) (c : Command) (gs : Groups) (now n1 : ℕ) (here there_is : Building) → j < length cs → c ≡ get_or cs j c
-      → DoesCommand scene around (action_seen c) now n1 here there_is → Leads scene around all (group_then (actions (map action_seen (drop j cs))) gs) first now old here
-      → Leads scene around all (group_then (actions (map action_seen (drop (j + 1) cs))) gs) first n1 old there_is
+      → DoesCommand scene around (action_seen c) now n1 here there_is → RestDoesWhole scene around all (group_then (actions (map action_seen (drop j cs))) gs) first now old here
+      → RestDoesWhole scene around all (group_then (actions (map action_seen (drop (j + 1) cs))) gs) first n1 old there_is
   leads_command cs j c gs now n1 here there_is within is does leads next new d =
       leads next new
       (subst (λ (xs : List Command). DoesGroups scene around (group_then (actions (map action_seen xs)) gs) now next here new) (sym (at_item cs j c within is))
       (parts_more scene around (action_seen c) (actions (map action_seen (drop (j + 1) cs))) gs now n1 next here there_is new does d))
 
-  pub leads_part : (cs : List Command) (j : ℕ) (gs : Groups) (now : ℕ) (here : Building) → length cs ≤ j → Leads scene around all (group_then (actions (map action_seen (drop j cs))) gs) first now old here
-      → Leads scene around all gs first now old here
+  pub leads_part : (cs : List Command) (j : ℕ) (gs : Groups) (now : ℕ) (here : Building) → length cs ≤ j → RestDoesWhole scene around all (group_then (actions (map action_seen (drop j cs))) gs) first now old here
+      → RestDoesWhole scene around all gs first now old here
   leads_part cs j gs now here end leads next new d =
       leads next new
       (subst (λ (xs : List Command). DoesGroups scene around (group_then (actions (map action_seen xs)) gs) now next here new) (sym (drop_past cs j end)) (parts_next scene around gs now next here new d))
 
-  pub leads_all : (ps : List (Vec Command Global)) (i : ℕ) (now : ℕ) (here : Building) → length ps ≤ i → Leads scene around all (all_parts_seen (drop i ps)) first now old here → DoesGroups scene around all first now old here
+  pub leads_all : (ps : List (Vec Command Global)) (i : ℕ) (now : ℕ) (here : Building) → length ps ≤ i → RestDoesWhole scene around all (all_parts_seen (drop i ps)) first now old here → DoesGroups scene around all first now old here
   leads_all ps i now here end leads =
       leads now here (subst (λ (xs : List (Vec Command Global)). DoesGroups scene around (all_parts_seen xs) now now here here) (sym (drop_past ps i end)) (parts_none scene around now here))
 

@@ -11,7 +11,7 @@ use Rattle.dh_expressions.proofs.Pushing.{begun_later, extends_again, extends_se
 use Rattle.dh_commands.specs.declared.buildings.Building.{Building}
 use Rattle.dh_commands.specs.LanesRun.{lane_of, lanes_run, paths_counted}
 use Rattle.dh_commands.specs.Followed.{view_at_step}
-use Rattle.dh_commands.specs.Done.{DoesAll, DoesOne, DoesPath, DoesPaths}
+use Rattle.dh_commands.specs.Done.{DoesCommandAtPaths, DoesCommandAtPath, DoesPath, DoesPaths}
 use Rattle.dh_commands.proofs.ChangesBack.{changes_again, changes_none, ready_after}
 
 -- what is known is known whatever variables hold
@@ -31,14 +31,14 @@ module _ (scene : Scene) (around : Around) (May : ℕ → Type 0) (Premise : ℕ
         (h.so x reads e (fits_before b.draft c.draft x k.extends f) s (λ i l. along i (omega (arith, l))) stands);
   }
 
-  pub all_none : (first count : ℕ) (b : Building) → DoesAll scene around May Premise run first count first 0 b b
+  pub all_none : (first count : ℕ) (b : Building) → DoesCommandAtPaths scene around May Premise run first count first 0 b b
   all_none first count b = record { next_is = λ some. absurd (never some); so = λ few. paths_none b }
     where
       never : 0 < 0 → ⊥
       never h = omega (arith, h)
 
-  pub all_more : (first count now next n : ℕ) (a b c : Building) → n < paths_counted around → DoesAll scene around May Premise run first count now n a b
-      → DoesOne scene (lane_of around n) May Premise run first count next b c → DoesAll scene around May Premise run first count next (suc n) a c
+  pub all_more : (first count now next n : ℕ) (a b c : Building) → n < paths_counted around → DoesCommandAtPaths scene around May Premise run first count now n a b
+      → DoesCommandAtPath scene (lane_of around n) May Premise run first count next b c → DoesCommandAtPaths scene around May Premise run first count next (suc n) a c
   all_more first count now next n a b c within h one = record {
     next_is = λ some. one.next_is;
     so = λ few. paths_more n a b c within (h.so few) (one.so few);

@@ -21,7 +21,7 @@ use Rattle.dh_expressions.specs.Evaluated.{counter_of, entity_shown, shown_by}
 use Rattle.dh_expressions.specs.Shown.{current_shown, guard_of, register_at, variable_shown}
 use Rattle.dh_expressions.proofs.ListPlaces.{set_here, set_other}
 use Rattle.dh_commands.specs.LanesRun.{is_on_at, lane_of, paths_counted}
-use Rattle.dh_commands.specs.ShownVariables.{IsSeen, IsSetTarget, ShowsVariables, ShowsAt, register_in, seen_path}
+use Rattle.dh_commands.specs.ShownVariables.{IsSeen, IsSetTarget, ShowsVariables, ShowsVariableAt, register_in, seen_path}
 
 -- what is shown of a variable follows from what its register shows
 pub shown_alike : (x : BlockStep) (o : Option Counter) (held : Held) (lane : Lane) (current more : List (Option ℕ)) (kind : Kind) → variable_shown x more (register_at held lane) ≡ variable_shown x current (register_at held lane)
@@ -88,7 +88,7 @@ module _ (scene : Scene) (around : Around) (x : BlockStep) (current : List (Opti
   shows_on is = record { each = λ e j there inside on. by e j there inside on (cases_Bool (register_in scene around e j == register)) }
     where
       by : (e j : ℕ) → IsSeen scene around.levels.now e → j < paths_counted around → is_on_at x around j ≡ true
-          → ((register_in scene around e j == register) ≡ true) ⊎ ((register_in scene around e j == register) ≡ false) → ShowsAt scene around x after set e j
+          → ((register_in scene around e j == register) ≡ true) ⊎ ((register_in scene around e j == register) ≡ false) → ShowsVariableAt scene around x after set e j
       by e j there inside on (inl a) =
           let same : register_in scene around e j ≡ register = eqb-true (register_in scene around e j) register a in
           let one = t.placed.apart e entity j number there t.there inside within same in

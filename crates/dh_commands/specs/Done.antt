@@ -43,21 +43,21 @@ DoesPaths scene around May Premise run count old new =
     Does scene around May (λ x reads e. Along around x reads Premise (run x) e count) (λ x e. lanes_run x around (run x) count e) old new
 
 -- the number of the next access behind so many more, where the numbers are few
-abbrev pub IsNext : (first count next : ℕ) → Type 0
-IsNext first count next = first + count < 2 ^ 32 → next ≡ first + count
+abbrev pub IsNextAccess : (first count next : ℕ) → Type 0
+IsNextAccess first count next = first + count < 2 ^ 32 → next ≡ first + count
 
 -- a command of which each path makes so many accesses, from a first one on: at one path, and at the first so many
-pub record DoesOne (scene : Scene) (lane : Lane) (May : ℕ → Type 0) (Premise : ℕ → BlockStep → StepReads → Variables → Type 0) (run : BlockStep → Path → Effect → Effect) (first count next : ℕ) (old new : Building) : Type 0 where
-  pub next_is : IsNext first count next
+pub record DoesCommandAtPath (scene : Scene) (lane : Lane) (May : ℕ → Type 0) (Premise : ℕ → BlockStep → StepReads → Variables → Type 0) (run : BlockStep → Path → Effect → Effect) (first count next : ℕ) (old new : Building) : Type 0 where
+  pub next_is : IsNextAccess first count next
   pub so : first + count < 2 ^ 32 → DoesPath scene lane.around May Premise run lane.number old new
 
-pub record DoesAll (scene : Scene) (around : Around) (May : ℕ → Type 0) (Premise : ℕ → BlockStep → StepReads → Variables → Type 0) (run : BlockStep → Path → Effect → Effect) (first count next paths : ℕ) (old new : Building) : Type 0 where
-  pub next_is : 0 < paths → IsNext first count next
+pub record DoesCommandAtPaths (scene : Scene) (around : Around) (May : ℕ → Type 0) (Premise : ℕ → BlockStep → StepReads → Variables → Type 0) (run : BlockStep → Path → Effect → Effect) (first count next paths : ℕ) (old new : Building) : Type 0 where
+  pub next_is : 0 < paths → IsNextAccess first count next
   pub so : first + count < 2 ^ 32 → DoesPaths scene around May Premise run paths old new
 
 -- a command at all paths
 pub record DoesCommand (scene : Scene) (around : Around) (a : Action) (first next : ℕ) (old new : Building) : Type 0 where
-  pub next_is : 0 < paths_counted around → IsNext first (accesses_of a) next
+  pub next_is : 0 < paths_counted around → IsNextAccess first (accesses_of a) next
   pub arms : Arms
   pub shaped : FitArms a arms
   pub so : 0 < paths_counted around → first + accesses_of a < 2 ^ 32

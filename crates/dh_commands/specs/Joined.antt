@@ -5,7 +5,7 @@ use Rattle.std.specs.List.{AllByRecursion}
 use Rattle.dh_commands.specs.declared.assignments.Values.{Values}
 use Rattle.dh_commands.specs.declared.choices.Choice.{Choice}
 use Rattle.dh_commands.specs.declared.choices.Left.{Left}
-use Rattle.dh_commands.specs.Undone.{AreReady, IsChoice, first_left}
+use Rattle.dh_commands.specs.Undone.{AreReady, IsChoiceOfArms, first_left}
 
 -- no choice of a register is noted yet, and it can be
 abbrev pub is_unmarked : (marks : List ℕ) → (register : ℕ) → Truth
@@ -56,7 +56,7 @@ AreApartChoices choices = (k m : ℕ) (c d : Choice) → slice_get choices k ≡
 
 -- The variables that arms left, each once.
 pub record AreChoices (chosen other : List Left) (choices : List Choice) : Type 0 where
-  pub are : (k : ℕ) (c : Choice) → slice_get choices k ≡ Some c → IsChoice chosen other c
+  pub are : (k : ℕ) (c : Choice) → slice_get choices k ≡ Some c → IsChoiceOfArms chosen other c
   -- each stands at the path at which its register was left
   pub left : (k : ℕ) (c : Choice) → slice_get choices k ≡ Some c
       → (l : Left) × ((l.path ≡ c.path) × ((first_left chosen c.register ≡ Some l) ⊎ (first_left other c.register ≡ Some l)))

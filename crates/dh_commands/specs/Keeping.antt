@@ -33,7 +33,7 @@ abbrev pub terms_words : Scene → Lane → View → (n : ℕ) → plain.Terms �
 terms_words scene lane v n ts = term_words (begun_of v.step) v.variables (lane_path lane) (core_terms (known_in scene) n ts)
 
 -- Operations that give several words where `Fair` and `Sees` hold, and tell these events under the guard.
-pub record GivesWords (guard : Option ℕ) (old new : Draft) (before after : Accesses) (values : List ℕ) (Fair Sees : View → Type 0) (all : View → List Word) (events : View → List Event) : Type 0 where
+pub record GivesSeveralWords (guard : Option ℕ) (old new : Draft) (before after : Accesses) (values : List ℕ) (Fair Sees : View → Type 0) (all : View → List Word) (events : View → List Event) : Type 0 where
   pub extends : Extends old new
   pub knows : (v : View) → FitsStep v.step new → BlockBegun v.step old → Knows v before → Fair v → Knows v after
   pub are : (v : View) → FitsStep v.step new → BlockBegun v.step old → Knows v before → Fair v → Sees v → map (λ n. word_shown v.step n) values ≡ all v
@@ -45,7 +45,7 @@ pub record EvaluatesWords (scene : Scene) (lane : Lane) (current : List (Option 
   pub long : length values ≡ length offsets
   pub next_is : n + terms_accesses (terms offsets) < 2 ^ 32 → next ≡ n + terms_accesses (terms offsets)
   pub so : n + terms_accesses (terms offsets) < 2 ^ 32
-      → GivesWords (lane_guard lane) old new before after values (λ v. FairAll scene lane current v n (terms offsets)) (λ v. SeesAll scene lane current v n (terms offsets)) (λ v. terms_words scene lane v n (terms offsets))
+      → GivesSeveralWords (lane_guard lane) old new before after values (λ v. FairAll scene lane current v n (terms offsets)) (λ v. SeesAll scene lane current v n (terms offsets)) (λ v. terms_words scene lane v n (terms offsets))
       (λ v. terms_told scene lane v n (terms offsets))
 
 -- the word of an offset as a variable holds it

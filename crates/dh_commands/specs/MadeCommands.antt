@@ -353,5 +353,5 @@ module _ (scene : Scene) where
     MadeGroups (group_then g rest) = MadeBoth (MadeActions g) (MadeGroups rest)
 
 -- whatever the rest of the parts makes from here, the whole makes from the begin
-abbrev pub MakesFrom : Scene → Around → (all rest : Groups) → (first now : ℕ) → (old here : Building) → Type 0
-MakesFrom scene around all rest first now old here = (next : ℕ) (new : Building) → MadeGroups scene rest around here new now next → MadeGroups scene all around old new first next
+abbrev pub RestMakesWhole : Scene → Around → (all rest : Groups) → (first now : ℕ) → (old here : Building) → Type 0
+RestMakesWhole scene around all rest first now old here = (next : ℕ) (new : Building) → MadeGroups scene rest around here new now next → MadeGroups scene all around old new first next

@@ -20,7 +20,7 @@ use Rattle.dh_commands.specs.Followed.{Arms, FitArms, FitGroups, Follows, Follow
 use Rattle.dh_commands.specs.Undone.{EndsArm}
 use Rattle.dh_commands.specs.Joined.{JoinsArms}
 use Rattle.dh_commands.specs.Choosing.{Chooses}
-use Rattle.dh_commands.specs.Done.{Does, IsNext}
+use Rattle.dh_commands.specs.Done.{Does, IsNextAccess}
 
 -- the values of a test show its truths, at each path where the guard holds
 abbrev pub ShowsTests : BlockStep → Around → (tests : List ℕ) → (truths : Path → Truth) → Type 0
@@ -29,7 +29,7 @@ ShowsTests x around tests truths =
 
 -- A command as an arm of an `if`, where its test comes out so. What it assigned is taken back, and left behind.
 pub record DoesArm (scene : Scene) (around : Around) (tests : List ℕ) (holds : Truth) (a : Action) (first next : ℕ) (old new : Building) (lefts : List Left) : Type 0 where
-  pub next_is : 0 < length tests → IsNext first (accesses_of a) next
+  pub next_is : 0 < length tests → IsNextAccess first (accesses_of a) next
   pub arm : Around
   pub levels : arm.levels.now ≡ around.levels.now
   pub long : paths_counted arm ≡ length tests
@@ -63,12 +63,12 @@ SetsGroups scene gs entity = any_assigns entity (core_groups (known_in scene) 0 
 
 -- parts of a block, at all paths
 pub record DoesGroups (scene : Scene) (around : Around) (gs : Groups) (first next : ℕ) (old new : Building) : Type 0 where
-  pub next_is : 0 < paths_counted around → IsNext first (groups_accesses gs) next
+  pub next_is : 0 < paths_counted around → IsNextAccess first (groups_accesses gs) next
   pub arms : Arms
   pub shaped : FitGroups gs arms
   pub so : 0 < paths_counted around → first + groups_accesses gs < 2 ^ 32
       → Does scene around (SetsGroups scene gs) (λ x reads e. FollowsGroups scene x reads around arms first gs e) (λ x e. groups_effect scene x (paths_on x around) first gs e) old new
 
 -- whatever the rest does from here, the whole does from the begin
-abbrev pub Leads : Scene → Around → (all rest : Groups) → (first now : ℕ) → (old here : Building) → Type 0
-Leads scene around all rest first now old here = (next : ℕ) (new : Building) → DoesGroups scene around rest now next here new → DoesGroups scene around all first next old new
+abbrev pub RestDoesWhole : Scene → Around → (all rest : Groups) → (first now : ℕ) → (old here : Building) → Type 0
+RestDoesWhole scene around all rest first now old here = (next : ℕ) (new : Building) → DoesGroups scene around rest now next here new → DoesGroups scene around all first next old new

@@ -28,7 +28,7 @@ use Rattle.dh_commands.specs.LanesRun.{is_on_at, paths_counted}
 use Rattle.dh_commands.specs.ShownVariables.{depth_in}
 use Rattle.dh_commands.specs.Undone.{Assigns}
 use Rattle.dh_commands.specs.Followed.{Along, FollowsAssigned, FollowsCleared, FollowsKept, FollowsReduced, FollowsStored, IsFollowedBy, kept_run, reduced_shown, reduced_term, store_run, test_run, value_at}
-use Rattle.dh_commands.specs.Done.{DoesAll, DoesOne, StandsBeside}
+use Rattle.dh_commands.specs.Done.{DoesCommandAtPaths, DoesCommandAtPath, StandsBeside}
 
 -- a variable is given a value at a path
 abbrev pub SetsAt : Scene → Lane → (old new : Values) → (entity value : ℕ) → Type 0
@@ -45,11 +45,11 @@ assigned_run scene entity t x = assigned_at (begun_of x) (depth_in scene entity)
 
 abbrev pub AssignsOne : Scene → Lane → (old new : Building) → (first next entity : ℕ) → plain.Term → Type 0
 AssignsOne scene lane old new first next entity t =
-    DoesOne scene lane (λ e. e ≡ entity) (FollowsAssigned scene lane.around entity first t) (assigned_run scene entity (core_term (known_in scene) first t)) first (term_accesses t) next old new
+    DoesCommandAtPath scene lane (λ e. e ≡ entity) (FollowsAssigned scene lane.around entity first t) (assigned_run scene entity (core_term (known_in scene) first t)) first (term_accesses t) next old new
 
 abbrev pub AssignsFirst : Scene → Around → (old new : Building) → (first next entity : ℕ) → plain.Term → (paths : ℕ) → Type 0
 AssignsFirst scene around old new first next entity t paths =
-    DoesAll scene around (λ e. e ≡ entity) (FollowsAssigned scene around entity first t) (assigned_run scene entity (core_term (known_in scene) first t)) first (term_accesses t) next paths old new
+    DoesCommandAtPaths scene around (λ e. e ≡ entity) (FollowsAssigned scene around entity first t) (assigned_run scene entity (core_term (known_in scene) first t)) first (term_accesses t) next paths old new
 
 abbrev pub AssignsAll : Scene → Around → (old new : Building) → (first next entity : ℕ) → plain.Term → Type 0
 AssignsAll scene around old new first next entity t = AssignsFirst scene around old new first next entity t (paths_counted around)
@@ -63,11 +63,11 @@ clears_at scene around entity number x reads variables = FollowsCleared scene ar
 
 abbrev pub ClearsOne : Scene → Lane → (old new : Building) → (entity : ℕ) → Type 0
 ClearsOne scene lane old new entity =
-    DoesOne scene lane (λ e. e ≡ entity) (clears_at scene lane.around entity) (assigned_run scene entity (zero_of scene entity)) 0 0 0 old new
+    DoesCommandAtPath scene lane (λ e. e ≡ entity) (clears_at scene lane.around entity) (assigned_run scene entity (zero_of scene entity)) 0 0 0 old new
 
 abbrev pub ClearsFirst : Scene → Around → (old new : Building) → (entity paths : ℕ) → Type 0
 ClearsFirst scene around old new entity paths =
-    DoesAll scene around (λ e. e ≡ entity) (clears_at scene around entity) (assigned_run scene entity (zero_of scene entity)) 0 0 0 paths old new
+    DoesCommandAtPaths scene around (λ e. e ≡ entity) (clears_at scene around entity) (assigned_run scene entity (zero_of scene entity)) 0 0 0 paths old new
 
 abbrev pub ClearsAll : Scene → Around → (old new : Building) → (entity : ℕ) → Type 0
 ClearsAll scene around old new entity = ClearsFirst scene around old new entity (paths_counted around)
@@ -75,11 +75,11 @@ ClearsAll scene around old new entity = ClearsFirst scene around old new entity 
 -- a reducer
 abbrev pub ReducesOne : Scene → Lane → (old new : Building) → (first next : ℕ) → Ref → Op → plain.Term → Type 0
 ReducesOne scene lane old new first next r op t =
-    DoesOne scene lane (λ e. e ≡ entity_number r.entity) (FollowsReduced scene lane.around r op first t) (assigned_run scene (entity_number r.entity) (reduced_term scene r op first t)) first (term_accesses t) next old new
+    DoesCommandAtPath scene lane (λ e. e ≡ entity_number r.entity) (FollowsReduced scene lane.around r op first t) (assigned_run scene (entity_number r.entity) (reduced_term scene r op first t)) first (term_accesses t) next old new
 
 abbrev pub ReducesFirst : Scene → Around → (old new : Building) → (first next : ℕ) → Ref → Op → plain.Term → (paths : ℕ) → Type 0
 ReducesFirst scene around old new first next r op t paths =
-    DoesAll scene around (λ e. e ≡ entity_number r.entity) (FollowsReduced scene around r op first t) (assigned_run scene (entity_number r.entity) (reduced_term scene r op first t)) first (term_accesses t) next paths old new
+    DoesCommandAtPaths scene around (λ e. e ≡ entity_number r.entity) (FollowsReduced scene around r op first t) (assigned_run scene (entity_number r.entity) (reduced_term scene r op first t)) first (term_accesses t) next paths old new
 
 abbrev pub ReducesAll : Scene → Around → (old new : Building) → (first next : ℕ) → Ref → Op → plain.Term → Type 0
 ReducesAll scene around old new first next r op t = ReducesFirst scene around old new first next r op t (paths_counted around)
@@ -96,19 +96,19 @@ IsVariableAmong first count entity = (first ≤ entity) × (entity < first + cou
 -- a view keeps its offsets, the first of them in this variable
 abbrev pub KeepsOne : Scene → Lane → (old new : Building) → (first next : ℕ) → Hidden → (offsets : List plain.Term) → Type 0
 KeepsOne scene lane old new first next h offsets =
-    DoesOne scene lane (λ e. IsVariableAmong h.entity (length offsets) e) (FollowsKept scene lane.around h first offsets) (λ x. kept_run scene x h first offsets) first (terms_accesses (terms offsets)) next old new
+    DoesCommandAtPath scene lane (λ e. IsVariableAmong h.entity (length offsets) e) (FollowsKept scene lane.around h first offsets) (λ x. kept_run scene x h first offsets) first (terms_accesses (terms offsets)) next old new
 
 abbrev pub KeepsFirst : Scene → Around → (old new : Building) → (first next : ℕ) → Hidden → (offsets : List plain.Term) → (paths : ℕ) → Type 0
 KeepsFirst scene around old new first next h offsets paths =
-    DoesAll scene around (λ e. IsVariableAmong h.entity (length offsets) e) (FollowsKept scene around h first offsets) (λ x. kept_run scene x h first offsets) first (terms_accesses (terms offsets)) next paths old new
+    DoesCommandAtPaths scene around (λ e. IsVariableAmong h.entity (length offsets) e) (FollowsKept scene around h first offsets) (λ x. kept_run scene x h first offsets) first (terms_accesses (terms offsets)) next paths old new
 
-abbrev pub KeepsAll : Scene → Around → (old new : Building) → (first next : ℕ) → Hidden → (offsets : List plain.Term) → Type 0
-KeepsAll scene around old new first next h offsets = KeepsFirst scene around old new first next h offsets (paths_counted around)
+abbrev pub KeepsAtAllPaths : Scene → Around → (old new : Building) → (first next : ℕ) → Hidden → (offsets : List plain.Term) → Type 0
+KeepsAtAllPaths scene around old new first next h offsets = KeepsFirst scene around old new first next h offsets (paths_counted around)
 
 -- a view does, whose way has these variables; one whose way has none does nothing, and tells this number of an access
 abbrev pub KeepsView : Scene → Around → (old new : Building) → (first idle next : ℕ) → List Hidden → (offsets : List plain.Term) → Type 0
 KeepsView scene around old new first idle next [] offsets = (new ≡ old) × (next ≡ idle)
-KeepsView scene around old new first idle next (h ∷ hs) offsets = KeepsAll scene around old new first next h offsets
+KeepsView scene around old new first idle next (h ∷ hs) offsets = KeepsAtAllPaths scene around old new first next h offsets
 
 -- a store sets no variable
 abbrev pub NoVariable : ℕ → Type 0
@@ -116,11 +116,11 @@ NoVariable entity = ⊥
 
 abbrev pub StoresOne : Scene → Lane → (old new : Building) → (first next : ℕ) → (target value : plain.Term) → Type 0
 StoresOne scene lane old new first next target t =
-    DoesOne scene lane NoVariable (FollowsStored scene lane.around first target t) (λ x. store_run scene x first target t) first (term_accesses t + term_accesses target) next old new
+    DoesCommandAtPath scene lane NoVariable (FollowsStored scene lane.around first target t) (λ x. store_run scene x first target t) first (term_accesses t + term_accesses target) next old new
 
 abbrev pub StoresFirst : Scene → Around → (old new : Building) → (first next : ℕ) → (target value : plain.Term) → (paths : ℕ) → Type 0
 StoresFirst scene around old new first next target t paths =
-    DoesAll scene around NoVariable (FollowsStored scene around first target t) (λ x. store_run scene x first target t) first (term_accesses t + term_accesses target) next paths old new
+    DoesCommandAtPaths scene around NoVariable (FollowsStored scene around first target t) (λ x. store_run scene x first target t) first (term_accesses t + term_accesses target) next paths old new
 
 abbrev pub StoresAll : Scene → Around → (old new : Building) → (first next : ℕ) → (target value : plain.Term) → Type 0
 StoresAll scene around old new first next target t = StoresFirst scene around old new first next target t (paths_counted around)
@@ -143,7 +143,7 @@ AimsAtTarget scene lane current old new before after n target aimed = AimsForm s
 
 -- A test at the first paths, so many, with its values there. They are those of the program where the guard holds.
 pub record TestsFirst (scene : Scene) (around : Around) (old new : Building) (first next : ℕ) (t : plain.Term) (tests : List ℕ) (paths : ℕ) : Type 0 where
-  pub does : DoesAll scene around NoVariable (IsFollowedBy scene around first t) (λ x. test_run scene x first t) first (term_accesses t) next paths old new
+  pub does : DoesCommandAtPaths scene around NoVariable (IsFollowedBy scene around first t) (λ x. test_run scene x first t) first (term_accesses t) next paths old new
   pub long : length tests ≡ paths
   pub are : first + term_accesses t < 2 ^ 32 → (x : BlockStep) (reads : StepReads) (e : Effect) → FitsStep x new.draft → BlockBegun x old.draft
       → Along around x reads (IsFollowedBy scene around first t) (test_run scene x first t) e paths → StandsBeside scene around x reads old e
@@ -155,7 +155,7 @@ TestsAll scene around old new first next t tests = TestsFirst scene around old n
 
 -- a test at one path, with its value there
 pub record TestsOne (scene : Scene) (lane : Lane) (old new : Building) (first : ℕ) (t : plain.Term) (own : Valued) : Type 0 where
-  pub does : DoesOne scene lane NoVariable (IsFollowedBy scene lane.around first t) (λ x. test_run scene x first t) first (term_accesses t) own.next old new
+  pub does : DoesCommandAtPath scene lane NoVariable (IsFollowedBy scene lane.around first t) (λ x. test_run scene x first t) first (term_accesses t) own.next old new
   pub is : first + term_accesses t < 2 ^ 32 → (x : BlockStep) (reads : StepReads) (e : Effect) → FitsStep x new.draft → BlockBegun x old.draft
       → IsFollowedBy scene lane.around first t lane.number x reads e.variables → StandsBeside scene lane.around x reads old e
       → is_on_at x lane.around lane.number ≡ true → word_shown x own.value ≡ value_at scene lane.around x e.variables lane.number first t

@@ -39,14 +39,14 @@ pub record IsSeen (scene : Scene) (levels : List Level) (entity : ℕ) : Type 0 
   pub held : (held_at scene.held.now entity).depth ≡ depth_in scene entity
   pub round : (placing_of (program_seen scene.program.now)).factors entity ≡ take (depth_in scene entity) (level_factors levels)
 
-abbrev pub ShowsAt : Scene → Around → BlockStep → (current : List (Option ℕ)) → Variables → (entity number : ℕ) → Type 0
-ShowsAt scene around x current variables entity number =
+abbrev pub ShowsVariableAt : Scene → Around → BlockStep → (current : List (Option ℕ)) → Variables → (entity number : ℕ) → Type 0
+ShowsVariableAt scene around x current variables entity number =
     entity_shown scene (lane_of around number) current x entity (held_at scene.held.now entity).kind
     ≡ word_of (held_at scene.held.now entity).kind (variables entity (seen_path scene around entity number))
 
 pub record ShowsVariables (scene : Scene) (around : Around) (x : BlockStep) (current : List (Option ℕ)) (variables : Variables) : Type 0 where
   pub each : (entity number : ℕ) → IsSeen scene around.levels.now entity → number < paths_counted around → is_on_at x around number ≡ true
-      → ShowsAt scene around x current variables entity number
+      → ShowsVariableAt scene around x current variables entity number
 
 -- Registers stand for copies: of two variables or two copies they differ, of one copy they are one.
 pub record ArePlaced (scene : Scene) (around : Around) : Type 0 where

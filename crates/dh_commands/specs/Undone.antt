@@ -108,6 +108,6 @@ value_left None = None
 value_left (Some l) = l.value
 
 -- a choice stands for what both arms left of its register
-pub record IsChoice (chosen other : List Left) (c : Choice) : Type 0 where
+pub record IsChoiceOfArms (chosen other : List Left) (c : Choice) : Type 0 where
   pub chosen_is : c.chosen ≡ value_left (first_left chosen c.register)
   pub other_is : c.other ≡ value_left (first_left other c.register)

@@ -8,7 +8,8 @@ ghost use Rattle.dh_commands.specs.Choosing.{MakesGuard, MakesGuards};
 ghost use Rattle.dh_commands.specs.MadeCommands.{MadeArmGuards, MadeGuard, MadeNot};
 
 use dh_base::NoMemory;
-use dh_expressions::{Draft, guard_at, push_compute, push_constant, push_select, truth};
+use dh_code::truth;
+use dh_expressions::{Draft, guard_at, push_compute, push_constant, push_select};
 use dh_value::Op;
 use std::alloc::Global;
 

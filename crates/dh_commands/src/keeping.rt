@@ -12,7 +12,7 @@ ghost use Rattle.dh_expressions.specs.MadeTerms.{MadeTerms};
 ghost use Rattle.dh_commands.specs.Keeping.{EvaluatesWords, held_words, kept_shown, paired};
 ghost use Rattle.dh_commands.specs.LanesRun.{paths_counted};
 ghost use Rattle.dh_commands.specs.MadeCommands.{KeptTo, KeptView, MadeHold, MadeHolds, MadeKept};
-ghost use Rattle.dh_commands.specs.Setting.{KeepsAll, KeepsOne, KeepsView, SetsAt, SetsFrom};
+ghost use Rattle.dh_commands.specs.Setting.{KeepsAtAllPaths, KeepsOne, KeepsView, SetsAt, SetsFrom};
 
 use crate::assignments::{Values, assign};
 use crate::buildings::Building;
@@ -244,7 +244,7 @@ fn keep_all(
     hidden: Hidden,
     form: &ViewForm,
 ) -> Result<u32, NoMemory>
-    ensures means { IfOk result (λ next. KeepsAll scene.now around.entry building.old building.new
+    ensures means { IfOk result (λ next. KeepsAtAllPaths scene.now around.entry building.old building.new
         first next (hidden_seen hidden) (offsets_of (view_plan form.now))) }
     ensures made { IfOk result (λ next. KeptTo scene.now around.entry first hidden.entity
         (offsets_of (view_plan form.now)) (paths_counted around.entry) building.old building.new

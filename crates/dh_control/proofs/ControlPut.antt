@@ -17,7 +17,7 @@ use Rattle.dh_control.specs.declared.stepping.Verdict.{Verdict}
 use Rattle.dh_control.specs.AllBlocks.{state_ways, AllChecksAdded, AllSetsAdded, WaysAdded}
 use Rattle.dh_control.specs.ControlsMade.{ActivityMade, OutcomeMade, AfterMade, ResultsMade}
 use Rattle.dh_control.specs.KeyedItems.{items_picked}
-use Rattle.dh_control.specs.MovedValues.{Move, moved, AreMoves, MovesMade}
+use Rattle.dh_control.specs.MovedValues.{Move, moved_values, AreMoves, MovesMade}
 use Rattle.dh_control.specs.SizedWires.{WiresAreSized, shown_all}
 use Rattle.dh_control.specs.StateWires.{AreStands, StandsMade, active_shown, with_each_shown}
 use Rattle.dh_control.specs.StepWires.{PaceMade, VerdictMade}
@@ -96,7 +96,7 @@ after_made d e f widths registers commits wires blocks before moves list after n
       grows = grows_then d e f a.grows b.grows;
       sized = b.sized;
       shows = λ x w kinds s words.
-          b.shows x s ∙ (ap (λ l. moved x l (shown_all x registers)) same ∙ a.does x w kinds (shown_all x registers) (settled_fewer e f x b.grows s) words);
+          b.shows x s ∙ (ap (λ l. moved_values x l (shown_all x registers)) same ∙ a.does x w kinds (shown_all x registers) (settled_fewer e f x b.grows s) words);
     }
 
 -- The registers and the state after the step.
@@ -130,10 +130,10 @@ results_made d e f g h widths after copy width state v states start moves list s
     let in_g : (x : Signals) → IsSettled h x → IsSettled g x = (λ x s. settled_fewer g h x m.grows s) in
     let in_f : (x : Signals) → IsSettled h x → IsSettled f x = (λ x s. settled_fewer f g x c.grows (in_g x s)) in
     let in_e : (x : Signals) → IsSettled h x → IsSettled e x = (λ x s. settled_fewer e f x b.grows (in_f x s)) in
-    let news_are : (x : Signals) → IsSettled h x → shown_all x news ≡ moved x moves (shown_all x after) =
-    (λ x s. c.shows x (in_g x s) ∙ ap (λ l. moved x l (shown_all x after)) same) in
-    let next_is : (x : Signals) → IsSettled h x → shown_all x next ≡ moved x leads2 (shown x state ∷ []) =
-    (λ x s. m.shows x s ∙ ap (λ l. moved x l (shown x state ∷ [])) other) in
+    let news_are : (x : Signals) → IsSettled h x → shown_all x news ≡ moved_values x moves (shown_all x after) =
+    (λ x s. c.shows x (in_g x s) ∙ ap (λ l. moved_values x l (shown_all x after)) same) in
+    let next_is : (x : Signals) → IsSettled h x → shown_all x next ≡ moved_values x leads2 (shown x state ∷ []) =
+    (λ x s. m.shows x s ∙ ap (λ l. moved_values x l (shown x state ∷ [])) other) in
     record {
       grows = grows_then d e h a.grows (grows_then e f h b.grows (grows_then f g h c.grows m.grows));
       news = sized_stay g h widths news m.grows c.sized;

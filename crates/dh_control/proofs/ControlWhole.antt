@@ -19,7 +19,7 @@ use Rattle.dh_control.specs.declared.controlling.Outcome.{Outcome}
 use Rattle.dh_control.specs.declared.controlling.Own.{Own}
 use Rattle.dh_control.specs.declared.controlling.Results.{Results}
 use Rattle.dh_control.specs.declared.stepping.Nexts.{Nexts}
-use Rattle.dh_control.specs.AllBlocks.{AreBlockWords, blocks_set, blocks_code, state_ways, way_at}
+use Rattle.dh_control.specs.AllBlocks.{AreBlockWords, blocks_set, blocks_code, state_ways, graph_way_at}
 use Rattle.dh_control.specs.ControlsMade.{ActivityMade, OutcomeMade, AfterMade, ResultsMade}
 use Rattle.dh_control.specs.ControlsWhole.{OwnShown, AreOfMaking, control_wires, ControlMade}
 use Rattle.dh_control.specs.SizedWires.{shown_all}
@@ -91,7 +91,7 @@ module _ (d e f g h i : PlainCircuit) (own : Own) (widths registers wires : List
     there : (m : ℕ) (stop : GraphStop) → slice_get k.flow.states m ≡ Some stop → m < length states
     there m stop at = let less = slice_get_within k.flow.states m stop at in let l = states_long in omega (arith, less, l)
 
-    way_is : (m : ℕ) (stop : GraphStop) → slice_get k.flow.states m ≡ Some stop → way_at (state_ways states) m ≡ stop.way
+    way_is : (m : ℕ) (stop : GraphStop) → slice_get k.flow.states m ≡ Some stop → graph_way_at (state_ways states) m ≡ stop.way
     way_is m stop at =
         ap (λ l. slice_index_or l m to_end) of.ways_are
         ∙ get_or_from_slice_get (map (λ s. s.way) k.flow.states) m stop.way to_end (slice_get-map (λ s. s.way) k.flow.states m ∙ ap (option_map (λ s. s.way)) at)
@@ -127,7 +127,7 @@ module _ (d e f g h i : PlainCircuit) (own : Own) (widths registers wires : List
       goes = λ on stop at.
           only_wire x r.state _
           (u.goes x k.plan.registers (shown x own.state) in_h of.widths_are on (not_both _ _ (is_one x o.pace.last) (shown x o.verdict.failed == 0) commit_is faulted_is on) refl (there (shown x own.state) stop at))
-          ∙ (ap (λ m. spot_number m (resolve k.plan.registers (way_at (state_ways states) (shown x own.state)) (shown_all x after)).spot) states_long
+          ∙ (ap (λ m. spot_number m (resolve k.plan.registers (graph_way_at (state_ways states) (shown x own.state)) (shown_all x after)).spot) states_long
           ∙ ap (λ w. spot_number (length k.flow.states) (resolve k.plan.registers w (shown_all x after)).spot) (way_is (shown x own.state) stop at));
       halts = λ wrong.
           only_wire x r.state (length states) (u.halts x in_h (not_either _ _ (is_one x o.pace.last) (shown x o.verdict.failed == 0) commit_is faulted_is wrong) wrong) ∙ states_long;

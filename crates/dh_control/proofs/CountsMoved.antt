@@ -15,7 +15,7 @@ use Rattle.dh_cells.specs.ShownValues.{is_one}
 use Rattle.dh_cells.proofs.CellsAppended.{grows_then, settled_fewer, wire_stays}
 use Rattle.dh_control.specs.declared.leading.Branch.{Branch}
 use Rattle.dh_control.specs.declared.leading.Counted.{Counted}
-use Rattle.dh_control.specs.MovedValues.{Move, set_where, moved, MoveFits, AreMoves}
+use Rattle.dh_control.specs.MovedValues.{Move, set_where, moved_values, MoveFits, AreMoves}
 use Rattle.dh_control.specs.SizedWires.{WiresAreSized, shown_all}
 use Rattle.dh_control.specs.WayMoves.{spot_number, BranchMade, CountedMade, WayAdded, counts}
 use Rattle.dh_control.proofs.ListFacts.{all_both}
@@ -95,8 +95,8 @@ module _ (d d1 e f g : PlainCircuit) (widths : List ℕ) (width states active : 
   again_shown x kinds s same =
       ap (λ l. shown_all x l) second ∙ (shown_set x after counter c.more ∙ ap (λ n. slice_set (shown_all x after) counter n) (more_value x kinds s same))
 
-  moved_counts : (x : Signals) (values : List ℕ) → moved x m3 values ≡ moved x m2 (set_where (is_one x b.chosen) counter (shown x c.none) (set_where (is_one x b.other) counter (shown x c.more) values))
-  moved_counts x values = ap (λ l. moved x l values) put ∙ moved_behind x m2 (counts counter b c) values
+  moved_counts : (x : Signals) (values : List ℕ) → moved_values x m3 values ≡ moved_values x m2 (set_where (is_one x b.chosen) counter (shown x c.none) (set_where (is_one x b.other) counter (shown x c.more) values))
+  moved_counts x values = ap (λ l. moved_values x l values) put ∙ moved_behind x m2 (counts counter b c) values
 
   abbrev led_by : (kinds : List Kind) → List ℕ → Bool → GraphLed
   led_by kinds values t = if t then resolve kinds past (slice_set values counter 0) else resolve kinds again (counted_up kinds counter values)
@@ -133,30 +133,30 @@ module _ (d d1 e f g : PlainCircuit) (widths : List ℕ) (width states active : 
     leads_fit = λ h. q.leads_fit (p.leads_fit (moves_stay d e (width ∷ []) l0 (grows_then d d1 e a.grows made.grows) h));
     turns = λ x kinds s same on. moved_counts x (shown_all x after) ∙ elim (cases_Bool (at_last x)) [
       | inl holds ↦
-          ap (λ vs. moved x m2 vs) (moves_at_last x s on holds)
+          ap (λ vs. moved_values x m2 vs) (moves_at_last x s on holds)
           ∙ (q.keeps x (shown_all x after1) s (other_off x s holds)
           ∙ (p.turns x kinds (in_f x s) same (chosen_on x s on holds)
-          ∙ (ap (λ vs. moved x m0 (resolve kinds past vs).registers) (past_shown x s) ∙ sym (ap (λ t. moved x m0 (led_by kinds (shown_all x after) t).registers) holds))))
+          ∙ (ap (λ vs. moved_values x m0 (resolve kinds past vs).registers) (past_shown x s) ∙ sym (ap (λ t. moved_values x m0 (led_by kinds (shown_all x after) t).registers) holds))))
       | inr none ↦
-          ap (λ vs. moved x m2 vs) (moves_before x s on none)
+          ap (λ vs. moved_values x m2 vs) (moves_before x s on none)
           ∙ (q.turns x kinds s same (other_on x s on none)
           ∙ (p.keeps x _ (in_f x s) (chosen_off x s none)
-          ∙ (ap (λ vs. moved x m0 (resolve kinds again vs).registers) (again_shown x kinds s same) ∙ sym (ap (λ t. moved x m0 (led_by kinds (shown_all x after) t).registers) none))))
+          ∙ (ap (λ vs. moved_values x m0 (resolve kinds again vs).registers) (again_shown x kinds s same) ∙ sym (ap (λ t. moved_values x m0 (led_by kinds (shown_all x after) t).registers) none))))
     ];
     goes = λ x kinds n s same on. elim (cases_Bool (at_last x)) [
       | inl holds ↦
           q.stays x (n ∷ []) s (other_off x s holds)
           ∙ (p.goes x kinds n (in_f x s) same (chosen_on x s on holds)
-          ∙ (ap (λ vs. moved x l0 (spot_number states (resolve kinds past vs).spot ∷ [])) (past_shown x s) ∙ sym (ap (λ t. moved x l0 (spot_number states (led_by kinds (shown_all x after) t).spot ∷ [])) holds)))
+          ∙ (ap (λ vs. moved_values x l0 (spot_number states (resolve kinds past vs).spot ∷ [])) (past_shown x s) ∙ sym (ap (λ t. moved_values x l0 (spot_number states (led_by kinds (shown_all x after) t).spot ∷ [])) holds)))
       | inr none ↦
           q.goes x kinds n s same (other_on x s on none)
           ∙ (p.stays x _ (in_f x s) (chosen_off x s none)
-          ∙ (ap (λ vs. moved x l0 (spot_number states (resolve kinds again vs).spot ∷ [])) (again_shown x kinds s same)
-          ∙ sym (ap (λ t. moved x l0 (spot_number states (led_by kinds (shown_all x after) t).spot ∷ [])) none)))
+          ∙ (ap (λ vs. moved_values x l0 (spot_number states (resolve kinds again vs).spot ∷ [])) (again_shown x kinds s same)
+          ∙ sym (ap (λ t. moved_values x l0 (spot_number states (led_by kinds (shown_all x after) t).spot ∷ [])) none)))
     ];
     keeps = λ x values s off.
         moved_counts x values
-        ∙ (ap (λ vs. moved x m2 vs) (moves_none x values s off) ∙ (q.keeps x values s (none_other x s off) ∙ p.keeps x values (in_f x s) (none_chosen x s off)));
+        ∙ (ap (λ vs. moved_values x m2 vs) (moves_none x values s off) ∙ (q.keeps x values s (none_other x s off) ∙ p.keeps x values (in_f x s) (none_chosen x s off)));
     stays = λ x values s off. q.stays x values s (none_other x s off) ∙ p.stays x values (in_f x s) (none_chosen x s off);
   }
 

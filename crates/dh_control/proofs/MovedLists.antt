@@ -11,7 +11,7 @@ use Rattle.dh_cells.specs.declared.trees.Tested.{Tested}
 use Rattle.dh_cells.proofs.CellsAppended.{grows_none, grows_then, wire_stays}
 use Rattle.dh_cells.proofs.WireTrees.{tested_stays}
 use Rattle.dh_control.specs.KeyedItems.{items_picked}
-use Rattle.dh_control.specs.MovedValues.{Move, set_where, moved, AreMoves, MovesMade}
+use Rattle.dh_control.specs.MovedValues.{Move, set_where, moved_values, AreMoves, MovesMade}
 use Rattle.dh_control.specs.SizedWires.{WiresAreSized, shown_all}
 use Rattle.dh_control.specs.WireLists.{EachShows}
 use Rattle.dh_control.proofs.GatheredItems.{picked_here, picked_past}
@@ -23,9 +23,9 @@ set_long : (t : Bool) (place value : ℕ) (values : List ℕ) → length (set_wh
 set_long true place value values = length-set values place value
 set_long false place value values = refl
 
-pub moved_long : (x : Signals) (ms : List Move) (values : List ℕ) → length (moved x ms values) ≡ length values
+pub moved_long : (x : Signals) (ms : List Move) (values : List ℕ) → length (moved_values x ms values) ≡ length values
 moved_long x [] values = refl
-moved_long x (m ∷ ms) values = set_long (is_one x m.item.test) m.key (shown x m.item.value) (moved x ms values) ∙ moved_long x ms values
+moved_long x (m ∷ ms) values = set_long (is_one x m.item.test) m.key (shown x m.item.value) (moved_values x ms values) ∙ moved_long x ms values
 
 -- One value.
 
@@ -39,21 +39,21 @@ set_other true place value i values other = get_or-set_other values place i valu
 set_other false place value i values other = refl
 
 pub moved_at : (x : Signals) (ms : List Move) (values : List ℕ) (i : ℕ) → i < length values
-    → slice_index (moved x ms values) i ≡ first_of x (items_picked i ms) (slice_index values i)
+    → slice_index (moved_values x ms values) i ≡ first_of x (items_picked i ms) (slice_index values i)
 moved_at x [] values i less = refl
 moved_at x (m ∷ ms) values i less =
     let before = moved_at x ms values i less in
     let long = moved_long x ms values in
     elim (cases_eq m.key i) [
       | inl same ↦
-          let here : slice_index (moved x (m ∷ ms) values) i ≡ (if is_one x m.item.test then shown x m.item.value else slice_index (moved x ms values) i) =
-          subst (λ (k : ℕ). slice_index (set_where (is_one x m.item.test) m.key (shown x m.item.value) (moved x ms values)) k
-          ≡ (if is_one x m.item.test then shown x m.item.value else slice_index (moved x ms values) k)) same
-          (set_here (is_one x m.item.test) m.key (shown x m.item.value) (moved x ms values) (omega (arith, long, less, same))) in
+          let here : slice_index (moved_values x (m ∷ ms) values) i ≡ (if is_one x m.item.test then shown x m.item.value else slice_index (moved_values x ms values) i) =
+          subst (λ (k : ℕ). slice_index (set_where (is_one x m.item.test) m.key (shown x m.item.value) (moved_values x ms values)) k
+          ≡ (if is_one x m.item.test then shown x m.item.value else slice_index (moved_values x ms values) k)) same
+          (set_here (is_one x m.item.test) m.key (shown x m.item.value) (moved_values x ms values) (omega (arith, long, less, same))) in
           here ∙ (ap (λ (v : ℕ). if is_one x m.item.test then shown x m.item.value else v) before
           ∙ sym (ap (λ (l : List Tested). first_of x l (slice_index values i)) (picked_here i m ms same)))
       | inr other ↦
-          set_other (is_one x m.item.test) m.key (shown x m.item.value) i (moved x ms values) other
+          set_other (is_one x m.item.test) m.key (shown x m.item.value) i (moved_values x ms values) other
           ∙ (before ∙ sym (ap (λ (l : List Tested). first_of x l (slice_index values i)) (picked_past i m ms other)))
     ]
 
@@ -115,7 +115,7 @@ made_all old new widths wires moves news long made = let h = made.listed in reco
       let b = length-map wires (λ w. shown x w) in
       let c = moved_long x moves (shown_all x wires) in
       let l = h.long in
-      ext_get_or 0 (shown_all x news) (moved x moves (shown_all x wires)) (omega (arith, a, b, c, l))
+      ext_get_or 0 (shown_all x news) (moved_values x moves (shown_all x wires)) (omega (arith, a, b, c, l))
       (λ i less.
       let small : i < length wires = omega (arith, less, a, l) in
       shown_at x news i (omega (arith, small, l))

@@ -16,7 +16,7 @@ use Rattle.dh_cells.specs.PlainCircuits.{PlainCircuit}
 use Rattle.dh_cells.specs.Settled.{Signals, Grows, Adds, shown}
 use Rattle.dh_cells.specs.ShownValues.{is_one}
 use Rattle.dh_cells.proofs.CellsAppended.{grows_none, grows_then, settled_fewer, wire_stays}
-use Rattle.dh_control.specs.MovedValues.{Move, set_where, moved, MoveFits, AreMoves}
+use Rattle.dh_control.specs.MovedValues.{Move, set_where, moved_values, MoveFits, AreMoves}
 use Rattle.dh_control.specs.OnWires.{on_shown, on_both_shown}
 use Rattle.dh_control.specs.RegisterSets.{all_set_where, SetHasWire, SetSuits, SetsAdded}
 use Rattle.dh_control.specs.ValuesShown.{HasWire, IsShownValue}
@@ -25,7 +25,7 @@ use Rattle.dh_control.proofs.ListFacts.{all_front, all_back, all_both}
 use Rattle.dh_control.proofs.MovedLists.{moves_stay}
 
 -- Moves behind others are made first.
-pub moved_behind : (x : Signals) (ms ns : List Move) (values : List ℕ) → moved x (ms ++ ns) values ≡ moved x ms (moved x ns values)
+pub moved_behind : (x : Signals) (ms ns : List Move) (values : List ℕ) → moved_values x (ms ++ ns) values ≡ moved_values x ms (moved_values x ns values)
 moved_behind x [] ns values = refl
 moved_behind x (m ∷ ms) ns values = ap (λ vs. set_where (is_one x m.item.test) m.key (shown x m.item.value) vs) (moved_behind x ms ns values)
 
@@ -43,7 +43,7 @@ nothing_set d widths commit wires o moves f is none = record {
   grows = grows_none d;
   moves = λ h. h;
   does = λ x first ws kinds values s h.
-      ap (λ vs. moved x moves vs)
+      ap (λ vs. moved_values x moves vs)
       (none_set (is_one x commit) (is_on first ws o.guard) (form_sets first ws o.form) values (ap (λ g. form_sets first ws g) is ∙ none first ws));
 }
 
@@ -78,9 +78,9 @@ set_added d e widths commit wires o register value test before after is suits a 
       subst (λ (f : OperationForm). AllByRecursion (IsShownValue first ws kinds wires x) (one_or_none o.guard ++ form_takes f)) is h.each.0 in
       let guard = guard_is first ws kinds wires x o.guard (all_front (IsShownValue first ws kinds wires x) (one_or_none o.guard) (value ∷ []) takes) in
       let word = (all_back (IsShownValue first ws kinds wires x) (one_or_none o.guard) (value ∷ []) takes).0 in
-      ap (λ l. moved x l values) put
+      ap (λ l. moved_values x l values) put
       ∙ (moved_behind x before _ values
-      ∙ ap (λ vs. moved x before vs)
+      ∙ ap (λ vs. moved_values x before vs)
       (ap (λ t. set_where t register (shown x (slice_index wires value)) values) (both_tells d e test commit wires o.guard x a s)
       ∙ (by_tests (is_one x commit) (on_shown x wires o.guard) register (shown x (slice_index wires value)) values
       ∙ (ap (λ (t : Bool). all_set_where (is_one x commit) ((if t then record { register = register; bits = shown x (slice_index wires value) } ∷ [] else []) ++ []) values) (sym guard)
@@ -102,14 +102,14 @@ sets_then d e f widths commit wires o os before mid after p q = record {
   does = λ x first ws kinds values s h.
       q.does x first ws kinds values s (record { each = (h.each.0, tt) })
       ∙ (p.does x first ws kinds (all_set_where (is_one x commit) (block_sets first ws (o ∷ [])) values) (settled_fewer e f x q.grows s) (record { each = h.each.1 })
-      ∙ ap (λ vs. moved x before vs) (two_sets (is_one x commit) (operation_sets first ws o) (block_sets first ws os) values));
+      ∙ ap (λ vs. moved_values x before vs) (two_sets (is_one x commit) (operation_sets first ws o) (block_sets first ws os) values));
 }
 
 pub none_added : (d : PlainCircuit) (widths : List ℕ) (commit : ℕ) (wires : List ℕ) (moves : List Move) → SetsAdded d d widths commit wires [] moves moves
 none_added d widths commit wires moves = record {
   grows = grows_none d;
   moves = λ h. h;
-  does = λ x first ws kinds values s h. ap (λ vs. moved x moves vs) (none (is_one x commit) values);
+  does = λ x first ws kinds values s h. ap (λ vs. moved_values x moves vs) (none (is_one x commit) values);
 }
   where
     none : (c : Bool) (values : List ℕ) → values ≡ all_set_where c [] values

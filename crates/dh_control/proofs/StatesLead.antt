@@ -12,8 +12,8 @@ use Rattle.dh_cells.specs.ShownValues.{is_one, both_shown, match_shown}
 use Rattle.dh_cells.proofs.CellsAppended.{grows_none, grows_then, settled_fewer}
 use Rattle.dh_cells.proofs.OperatorBits.{bit_tells}
 use Rattle.dh_control.specs.declared.gathering.Keyed.{Keyed}
-use Rattle.dh_control.specs.AllBlocks.{state_ways, way_at, WaysAdded}
-use Rattle.dh_control.specs.MovedValues.{Move, moved}
+use Rattle.dh_control.specs.AllBlocks.{state_ways, graph_way_at, WaysAdded}
+use Rattle.dh_control.specs.MovedValues.{Move, moved_values}
 use Rattle.dh_control.specs.SizedWires.{shown_all}
 use Rattle.dh_control.specs.StateWires.{AreStands}
 use Rattle.dh_control.specs.WayMoves.{spot_number, way_of_decision, WayAdded}
@@ -42,7 +42,7 @@ stands_long d state first [] (k ∷ ks) h = absurd h
 stands_long d state first (b ∷ bs) [] h = absurd h
 stands_long d state first (b ∷ bs) (k ∷ ks) h = ap suc (stands_long d state (suc first) bs ks h.1)
 
-pub way_of_state : (states : List State) (i : ℕ) (s : State) → i < length states → way_at (state_ways states) i ≡ way_of_decision (get_or states i s).next
+pub way_of_state : (states : List State) (i : ℕ) (s : State) → i < length states → graph_way_at (state_ways states) i ≡ way_of_decision (get_or states i s).next
 way_of_state states i s less = get_or-map (λ s. way_of_decision s.next) states i s to_end less
 
 pub no_ways : (d : PlainCircuit) (widths : List ℕ) (width states state commit : ℕ) (after : List ℕ) (ways : List GraphWay) (moves leads : List Move)
@@ -59,7 +59,7 @@ no_ways d widths width states state commit after ways moves leads = record {
 
 module _ (d e f g : PlainCircuit) (widths : List ℕ) (width states state commit : ℕ) (after again : List ℕ) (ways : List GraphWay) (count active stand : ℕ) (way : GraphWay) (m0 m1 m2 l0 l1 l2 : List Move)
     (p : WaysAdded d e widths width states state commit after ways count m0 m1 l0 l1) (b : Adds e f active 1 (both_shown commit stand))
-    (stands : Shows d stand 1 (match_shown state count)) (same_after : again ≡ after) (q : WayAdded f g widths width states active again way m1 m2 l1 l2) (is : way_at ways count ≡ way) where
+    (stands : Shows d stand 1 (match_shown state count)) (same_after : again ≡ after) (q : WayAdded f g widths width states active again way m1 m2 l1 l2) (is : graph_way_at ways count ≡ way) where
   q' : WayAdded f g widths width states active after way m1 m2 l1 l2
   q' = subst (λ (l : List ℕ). WayAdded f g widths width states active l way m1 m2 l1 l2) same_after q
 
@@ -102,7 +102,7 @@ module _ (d e f g : PlainCircuit) (widths : List ℕ) (width states state commit
       | inl here ↦
           q'.turns x kinds s same (active_on x s on (at ∙ here))
           ∙ (p.keeps x _ (in_e x s) (inr (let m : count ≤ shown x state = omega (arith, at, here) in m))
-          ∙ sym (ap (λ w. moved x m0 (resolve kinds w (shown_all x after)).registers) (ap (λ k. way_at ways k) here ∙ is)))
+          ∙ sym (ap (λ w. moved_values x m0 (resolve kinds w (shown_all x after)).registers) (ap (λ k. graph_way_at ways k) here ∙ is)))
       | inr other ↦
           q'.keeps x (shown_all x after) s (active_off x s (λ e. other (sym at ∙ e)))
           ∙ p.turns x kinds n (in_e x s) same on at (omega (arith, less, other))
@@ -111,7 +111,7 @@ module _ (d e f g : PlainCircuit) (widths : List ℕ) (width states state commit
       | inl here ↦
           q'.goes x kinds k s same (active_on x s on (at ∙ here))
           ∙ (p.stays x _ (in_e x s) (inr (let m : count ≤ shown x state = omega (arith, at, here) in m))
-          ∙ sym (ap (λ w. moved x l0 (spot_number states (resolve kinds w (shown_all x after)).spot ∷ [])) (ap (λ k. way_at ways k) here ∙ is)))
+          ∙ sym (ap (λ w. moved_values x l0 (spot_number states (resolve kinds w (shown_all x after)).spot ∷ [])) (ap (λ k. graph_way_at ways k) here ∙ is)))
       | inr other ↦
           q'.stays x (k ∷ []) s (active_off x s (λ e. other (sym at ∙ e)))
           ∙ p.goes x kinds n k (in_e x s) same on at (omega (arith, less, other))

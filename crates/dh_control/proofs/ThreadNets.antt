@@ -24,7 +24,7 @@ use Rattle.dh_lower.specs.PortUsers.{User, Moment, DriveFor, is_among, operation
 use Rattle.dh_lower.specs.ShownWords.{in_ports}
 use Rattle.dh_lower.specs.SpotsDone.{blocks_of_spot}
 use Rattle.dh_control.specs.SizedWires.{shown_all}
-use Rattle.dh_control.specs.ThreadHolds.{StandsAt, holds_thread, own_registers, ControlWires, next_wires, ControlShows}
+use Rattle.dh_control.specs.ThreadHolds.{ThreadStandsAt, holds_thread, own_registers, ControlWires, next_wires, ControlShows}
 use Rattle.dh_control.specs.WayMoves.{spot_number}
 use Rattle.dh_control.specs.WiredNets.{IsStraight, MomentShown, IsWired}
 use Rattle.dh_control.proofs.StepEnds.{waits_next, goes_on_next, faults_next, commits_as, active_as, clock_as, outputs, over_next, over_outputs, over_active, over_commit}
@@ -32,15 +32,15 @@ use Rattle.dh_control.proofs.StepEnds.{waits_next, goes_on_next, faults_next, co
 -- Where a way of one thread leads.
 
 led_stands : (states : ℕ) (kinds : List Kind) (w : GraphWay) (registers : List ℕ) → IsStraight states w
-    → StandsAt states (resolve kinds w registers).spot (spot_number states (resolve kinds w registers).spot) × (length (resolve kinds w registers).registers ≡ length registers)
+    → ThreadStandsAt states (resolve kinds w registers).spot (spot_number states (resolve kinds w registers).spot) × (length (resolve kinds w registers).registers ≡ length registers)
 led_stands states kinds (to_state state) registers h = ((refl, h), refl)
 led_stands states kinds (by_flag flag w v) registers h =
     by (flag_holds registers flag) (led_stands states kinds w registers h.0) (led_stands states kinds v registers h.1)
   where
     by : (t : Bool)
-        → StandsAt states (resolve kinds w registers).spot (spot_number states (resolve kinds w registers).spot) × (length (resolve kinds w registers).registers ≡ length registers)
-        → StandsAt states (resolve kinds v registers).spot (spot_number states (resolve kinds v registers).spot) × (length (resolve kinds v registers).registers ≡ length registers)
-        → StandsAt states (if t then resolve kinds w registers else resolve kinds v registers).spot (spot_number states (if t then resolve kinds w registers else resolve kinds v registers).spot)
+        → ThreadStandsAt states (resolve kinds w registers).spot (spot_number states (resolve kinds w registers).spot) × (length (resolve kinds w registers).registers ≡ length registers)
+        → ThreadStandsAt states (resolve kinds v registers).spot (spot_number states (resolve kinds v registers).spot) × (length (resolve kinds v registers).registers ≡ length registers)
+        → ThreadStandsAt states (if t then resolve kinds w registers else resolve kinds v registers).spot (spot_number states (if t then resolve kinds w registers else resolve kinds v registers).spot)
         × (length (if t then resolve kinds w registers else resolve kinds v registers).registers ≡ length registers)
     by true p q = p
     by false p q = q
@@ -50,11 +50,11 @@ led_stands states kinds (by_count counter last w v) registers h =
     by (slice_index registers counter == last) (past.0, past.1 ∙ length-set registers counter 0) (again.0, again.1 ∙ length-set registers counter _)
   where
     by : (t : Bool)
-        → StandsAt states (resolve kinds v (slice_set registers counter 0)).spot (spot_number states (resolve kinds v (slice_set registers counter 0)).spot)
+        → ThreadStandsAt states (resolve kinds v (slice_set registers counter 0)).spot (spot_number states (resolve kinds v (slice_set registers counter 0)).spot)
         × (length (resolve kinds v (slice_set registers counter 0)).registers ≡ length registers)
-        → StandsAt states (resolve kinds w (counted_up kinds counter registers)).spot (spot_number states (resolve kinds w (counted_up kinds counter registers)).spot)
+        → ThreadStandsAt states (resolve kinds w (counted_up kinds counter registers)).spot (spot_number states (resolve kinds w (counted_up kinds counter registers)).spot)
         × (length (resolve kinds w (counted_up kinds counter registers)).registers ≡ length registers)
-        → StandsAt states (if t then resolve kinds v (slice_set registers counter 0) else resolve kinds w (counted_up kinds counter registers)).spot
+        → ThreadStandsAt states (if t then resolve kinds v (slice_set registers counter 0) else resolve kinds w (counted_up kinds counter registers)).spot
         (spot_number states (if t then resolve kinds v (slice_set registers counter 0) else resolve kinds w (counted_up kinds counter registers)).spot)
         × (length (if t then resolve kinds v (slice_set registers counter 0) else resolve kinds w (counted_up kinds counter registers)).registers ≡ length registers)
     by true p q = p
@@ -122,7 +122,7 @@ module _ (k : Making) (net : Net) (c : ControlWires) (w : IsWired k net c) where
     }
 
     led_there : fault_seen k (in_state n) registers wires ≡ None
-        → StandsAt (length k.flow.states) (led_on k (in_state n) registers wires).spot (spot_number (length k.flow.states) (led_on k (in_state n) registers wires).spot)
+        → ThreadStandsAt (length k.flow.states) (led_on k (in_state n) registers wires).spot (spot_number (length k.flow.states) (led_on k (in_state n) registers wires).spot)
         × (length (led_on k (in_state n) registers wires).registers ≡ length k.plan.registers)
     led_there fine =
         let so = led_stands (length k.flow.states) k.plan.registers (way_of_stop (slice_get k.flow.states n))

@@ -11,7 +11,7 @@ use Rattle.dh_cells.specs.ShownValues.{is_one, number_shown, more_shown, match_s
 use Rattle.dh_cells.proofs.CellsAppended.{grows_then, settled_fewer, wire_stays, shows_later}
 use Rattle.dh_cells.proofs.OperatorBits.{bit_tells}
 use Rattle.dh_control.specs.declared.leading.Branch.{Branch}
-use Rattle.dh_control.specs.MovedValues.{Move, set_where, moved, MoveFits, AreMoves}
+use Rattle.dh_control.specs.MovedValues.{Move, set_where, moved_values, MoveFits, AreMoves}
 use Rattle.dh_control.specs.SizedWires.{WiresAreSized, shown_all}
 use Rattle.dh_control.specs.WayMoves.{HoldsStates, spot_number, BranchMade, CountedMade, LeadAdded, WayAdded}
 use Rattle.dh_control.proofs.ListFacts.{all_both}
@@ -70,11 +70,11 @@ lead_added d e width active number value before after test a put = record {
       (all_both (MoveFits e (width ∷ [])) before _ (moves_stay d e (width ∷ []) before a.grows h)
       ((λ less. record { test = wire_stays d e active 1 a.grows test; value = a.shows.there }), tt));
   goes = λ x n s on.
-      ap (λ l. moved x l (n ∷ [])) put
+      ap (λ l. moved_values x l (n ∷ [])) put
       ∙ (moved_behind x before _ (n ∷ [])
-      ∙ ap (λ vs. moved x before vs) (set_one (is_one x active) n (shown x value) on ∙ ap (λ k. k ∷ []) (a.shows.is x s)));
+      ∙ ap (λ vs. moved_values x before vs) (set_one (is_one x active) n (shown x value) on ∙ ap (λ k. k ∷ []) (a.shows.is x s)));
   stays = λ x values s off.
-      ap (λ l. moved x l values) put ∙ (moved_behind x before _ values ∙ ap (λ vs. moved x before vs) (set_none (is_one x active) 0 (shown x value) values off));
+      ap (λ l. moved_values x l values) put ∙ (moved_behind x before _ values ∙ ap (λ vs. moved_values x before vs) (set_none (is_one x active) 0 (shown x value) values off));
 }
 
 -- where a way only leads to a number
@@ -85,8 +85,8 @@ lead_way d e widths width states active after w number moves leads further so a 
   grows = a.grows;
   moves_fit = λ h. moves_stay d e widths moves a.grows h;
   leads_fit = a.fits;
-  turns = λ x kinds s same on. ap (λ vs. moved x moves vs) (sym (so kinds (shown_all x after)).0);
-  goes = λ x kinds n s same on. a.goes x n s on ∙ ap (λ k. moved x leads (k ∷ [])) (sym (so kinds (shown_all x after)).1);
+  turns = λ x kinds s same on. ap (λ vs. moved_values x moves vs) (sym (so kinds (shown_all x after)).0);
+  goes = λ x kinds n s same on. a.goes x n s on ∙ ap (λ k. moved_values x leads (k ∷ [])) (sym (so kinds (shown_all x after)).1);
   keeps = λ x values s off. refl;
   stays = a.stays;
 }
@@ -168,18 +168,18 @@ module _ (d e f g : PlainCircuit) (widths : List ℕ) (width states active : ℕ
     turns = λ x kinds s same on. elim (cases_Bool (flag_holds (shown_all x after) flag)) [
       | inl holds ↦
           q.keeps x (shown_all x after) s (other_off x s holds)
-          ∙ (p.turns x kinds (in_f x s) same (chosen_on x s on holds) ∙ sym (ap (λ t. moved x m0 (led_by kinds (shown_all x after) t).registers) holds))
+          ∙ (p.turns x kinds (in_f x s) same (chosen_on x s on holds) ∙ sym (ap (λ t. moved_values x m0 (led_by kinds (shown_all x after) t).registers) holds))
       | inr none ↦
           q.turns x kinds s same (other_on x s on none)
-          ∙ (p.keeps x _ (in_f x s) (chosen_off x s none) ∙ sym (ap (λ t. moved x m0 (led_by kinds (shown_all x after) t).registers) none))
+          ∙ (p.keeps x _ (in_f x s) (chosen_off x s none) ∙ sym (ap (λ t. moved_values x m0 (led_by kinds (shown_all x after) t).registers) none))
     ];
     goes = λ x kinds n s same on. elim (cases_Bool (flag_holds (shown_all x after) flag)) [
       | inl holds ↦
           q.stays x (n ∷ []) s (other_off x s holds)
-          ∙ (p.goes x kinds n (in_f x s) same (chosen_on x s on holds) ∙ sym (ap (λ t. moved x l0 (spot_number states (led_by kinds (shown_all x after) t).spot ∷ [])) holds))
+          ∙ (p.goes x kinds n (in_f x s) same (chosen_on x s on holds) ∙ sym (ap (λ t. moved_values x l0 (spot_number states (led_by kinds (shown_all x after) t).spot ∷ [])) holds))
       | inr none ↦
           q.goes x kinds n s same (other_on x s on none)
-          ∙ (p.stays x _ (in_f x s) (chosen_off x s none) ∙ sym (ap (λ t. moved x l0 (spot_number states (led_by kinds (shown_all x after) t).spot ∷ [])) none))
+          ∙ (p.stays x _ (in_f x s) (chosen_off x s none) ∙ sym (ap (λ t. moved_values x l0 (spot_number states (led_by kinds (shown_all x after) t).spot ∷ [])) none))
     ];
     keeps = λ x values s off. q.keeps x values s (none_other x s off) ∙ p.keeps x values (in_f x s) (none_chosen x s off);
     stays = λ x values s off. q.stays x values s (none_other x s off) ∙ p.stays x values (in_f x s) (none_chosen x s off);

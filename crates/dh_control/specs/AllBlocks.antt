@@ -14,7 +14,7 @@ use Rattle.dh_cells.specs.Settled.{Signals, IsSettled, Grows, shown}
 use Rattle.dh_cells.specs.ShownValues.{is_one, first_of}
 use Rattle.dh_cells.specs.declared.trees.Tested.{Tested}
 use Rattle.dh_control.specs.FaultTests.{code_where, CheckSuits}
-use Rattle.dh_control.specs.MovedValues.{Move, moved, AreMoves}
+use Rattle.dh_control.specs.MovedValues.{Move, moved_values, AreMoves}
 use Rattle.dh_control.specs.RegisterSets.{all_set_where, SetSuits}
 use Rattle.dh_control.specs.SizedWires.{shown_all}
 use Rattle.dh_control.specs.ValuesShown.{AreShownWords}
@@ -53,7 +53,7 @@ pub record AllSetsAdded (old new : PlainCircuit) (widths commits wires : List �
   pub grows : Grows old new
   pub moves : AreMoves old widths before → AreMoves new widths after
   pub does : (x : Signals) (w : BlockWords) (kinds : List Kind) (values : List ℕ) → IsSettled new x → AreBlockWords w kinds wires x from blocks
-      → moved x after values ≡ moved x before (blocks_set x commits w from blocks values)
+      → moved_values x after values ≡ moved_values x before (blocks_set x commits w from blocks values)
 
 -- tests were added, behind those that were there, for the faults of all blocks
 pub record AllChecksAdded (old new : PlainCircuit) (active wires : List ℕ) (blocks : List PlanBlock) (before after : List Tested) : Type 0 where
@@ -66,8 +66,8 @@ pub record AllChecksAdded (old new : PlainCircuit) (active wires : List ℕ) (bl
 abbrev pub state_ways : List State → List GraphWay
 state_ways states = map (λ s. way_of_decision s.next) states
 
-abbrev pub way_at : List GraphWay → (state : ℕ) → GraphWay
-way_at ways state = slice_index_or ways state to_end
+abbrev pub graph_way_at : List GraphWay → (state : ℕ) → GraphWay
+graph_way_at ways state = slice_index_or ways state to_end
 
 -- Moves were added, in front of those that were there, for the ways behind the states below a number: they are made where
 -- a wire shows 1 and the graph stands in one of those states.
@@ -76,8 +76,8 @@ pub record WaysAdded (old new : PlainCircuit) (widths : List ℕ) (width states 
   pub moves_fit : AreMoves old widths moves → AreMoves new widths more
   pub leads_fit : AreMoves old (width ∷ []) leads → AreMoves new (width ∷ []) further
   pub turns : (x : Signals) (kinds : List Kind) (n : ℕ) → IsSettled new x → map width_of kinds ≡ widths → is_one x commit ≡ true → shown x state ≡ n → n < count
-      → moved x more (shown_all x after) ≡ moved x moves (resolve kinds (way_at ways n) (shown_all x after)).registers
+      → moved_values x more (shown_all x after) ≡ moved_values x moves (resolve kinds (graph_way_at ways n) (shown_all x after)).registers
   pub goes : (x : Signals) (kinds : List Kind) (n k : ℕ) → IsSettled new x → map width_of kinds ≡ widths → is_one x commit ≡ true → shown x state ≡ n → n < count
-      → moved x further (k ∷ []) ≡ moved x leads (spot_number states (resolve kinds (way_at ways n) (shown_all x after)).spot ∷ [])
-  pub keeps : (x : Signals) (values : List ℕ) → IsSettled new x → (is_one x commit ≡ false) ⊎ (count ≤ shown x state) → moved x more values ≡ moved x moves values
-  pub stays : (x : Signals) (values : List ℕ) → IsSettled new x → (is_one x commit ≡ false) ⊎ (count ≤ shown x state) → moved x further values ≡ moved x leads values
+      → moved_values x further (k ∷ []) ≡ moved_values x leads (spot_number states (resolve kinds (graph_way_at ways n) (shown_all x after)).spot ∷ [])
+  pub keeps : (x : Signals) (values : List ℕ) → IsSettled new x → (is_one x commit ≡ false) ⊎ (count ≤ shown x state) → moved_values x more values ≡ moved_values x moves values
+  pub stays : (x : Signals) (values : List ℕ) → IsSettled new x → (is_one x commit ≡ false) ⊎ (count ≤ shown x state) → moved_values x further values ≡ moved_values x leads values

@@ -14,7 +14,7 @@ use Rattle.dh_control.specs.declared.controlling.Activity.{Activity}
 use Rattle.dh_control.specs.declared.controlling.Outcome.{Outcome}
 use Rattle.dh_control.specs.declared.controlling.Results.{Results}
 use Rattle.dh_control.specs.declared.stepping.Verdict.{Verdict}
-use Rattle.dh_control.specs.AllBlocks.{BlockWords, AreBlockWords, blocks_set, blocks_code, state_ways, way_at}
+use Rattle.dh_control.specs.AllBlocks.{BlockWords, AreBlockWords, blocks_set, blocks_code, state_ways, graph_way_at}
 use Rattle.dh_control.specs.SizedWires.{WiresAreSized, shown_all}
 use Rattle.dh_control.specs.StateWires.{AreStands, blocks_active}
 use Rattle.dh_control.specs.StepWires.{any_waits}
@@ -61,9 +61,9 @@ pub record ResultsMade (old new : PlainCircuit) (widths after : List ℕ) (width
   pub news : WiresAreSized new widths r.news
   pub next : WiresAreSized new (width ∷ []) r.state
   pub turns : (x : Signals) (kinds : List Kind) (n : ℕ) → IsSettled new x → map width_of kinds ≡ widths → is_one x v.commit ≡ true → shown x state ≡ n → n < length states
-      → shown_all x r.news ≡ (resolve kinds (way_at (state_ways states) n) (shown_all x after)).registers
+      → shown_all x r.news ≡ (resolve kinds (graph_way_at (state_ways states) n) (shown_all x after)).registers
   pub keeps : (x : Signals) → IsSettled new x → is_one x v.commit ≡ false → shown_all x r.news ≡ shown_all x after
   pub goes : (x : Signals) (kinds : List Kind) (n : ℕ) → IsSettled new x → map width_of kinds ≡ widths → is_one x v.commit ≡ true → is_one x v.faulted ≡ false → shown x state ≡ n → n < length states
-      → shown_all x r.state ≡ spot_number (length states) (resolve kinds (way_at (state_ways states) n) (shown_all x after)).spot ∷ []
+      → shown_all x r.state ≡ spot_number (length states) (resolve kinds (graph_way_at (state_ways states) n) (shown_all x after)).spot ∷ []
   pub halts : (x : Signals) → IsSettled new x → is_one x v.commit ≡ false → is_one x v.faulted ≡ true → shown_all x r.state ≡ length states ∷ []
   pub stays : (x : Signals) → IsSettled new x → is_one x v.commit ≡ false → is_one x v.faulted ≡ false → shown_all x r.state ≡ shown x state ∷ []

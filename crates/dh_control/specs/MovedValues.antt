@@ -18,9 +18,9 @@ abbrev pub set_where : Bool → (place value : ℕ) → List ℕ → List ℕ
 set_where t place value values = if t then slice_set values place value else values
 
 -- values after moves
-abbrev pub moved : Signals → List Move → (values : List ℕ) → List ℕ
-moved x [] values = values
-moved x (m ∷ ms) values = set_where (is_one x m.item.test) m.key (shown x m.item.value) (moved x ms values)
+abbrev pub moved_values : Signals → List Move → (values : List ℕ) → List ℕ
+moved_values x [] values = values
+moved_values x (m ∷ ms) values = set_where (is_one x m.item.test) m.key (shown x m.item.value) (moved_values x ms values)
 
 -- a move of a value of this width, where it is of one of these
 abbrev pub MoveFits : PlainCircuit → (widths : List ℕ) → Move → Type 0
@@ -33,4 +33,4 @@ AreMoves d widths ms = AllByRecursion (MoveFits d widths) ms
 pub record MovesMade (old new : PlainCircuit) (widths wires : List ℕ) (moves : List Move) (news : List ℕ) : Type 0 where
   pub grows : Grows old new
   pub sized : WiresAreSized new widths news
-  pub shows : (x : Signals) → IsSettled new x → shown_all x news ≡ moved x moves (shown_all x wires)
+  pub shows : (x : Signals) → IsSettled new x → shown_all x news ≡ moved_values x moves (shown_all x wires)

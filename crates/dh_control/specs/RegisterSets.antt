@@ -9,7 +9,7 @@ use Rattle.dh_plan.specs.Blocks.{RegisterSet, block_sets, all_set}
 use Rattle.dh_cells.specs.PlainCircuits.{PlainCircuit}
 use Rattle.dh_cells.specs.Settled.{Signals, IsSettled, Grows}
 use Rattle.dh_cells.specs.ShownValues.{is_one}
-use Rattle.dh_control.specs.MovedValues.{Move, moved, AreMoves}
+use Rattle.dh_control.specs.MovedValues.{Move, moved_values, AreMoves}
 use Rattle.dh_control.specs.ValuesShown.{HasWire, GuardHasWire, AreShownWords}
 
 abbrev pub all_set_where : Bool → List RegisterSet → (registers : List ℕ) → List ℕ
@@ -29,4 +29,4 @@ pub record SetsAdded (old new : PlainCircuit) (widths : List ℕ) (commit : ℕ)
   pub grows : Grows old new
   pub moves : AreMoves old widths before → AreMoves new widths after
   pub does : (x : Signals) (first : ℕ) (ws : List Word) (kinds : List Kind) (values : List ℕ) → IsSettled new x → AreShownWords first ws kinds wires x os
-      → moved x after values ≡ moved x before (all_set_where (is_one x commit) (block_sets first ws os) values)
+      → moved_values x after values ≡ moved_values x before (all_set_where (is_one x commit) (block_sets first ws os) values)

@@ -19,15 +19,15 @@ use Rattle.dh_control.specs.StepWires.{any_waits, next_clock_shown, next_fault_s
 use Rattle.dh_control.specs.WayMoves.{spot_number}
 
 -- a thread stands where its number says
-abbrev pub StandsAt : (states : ℕ) → GraphSpot → (number : ℕ) → Type 0
-StandsAt states rests n = n ≡ states
-StandsAt states (in_state state) n = (n ≡ state) × (state < states)
-StandsAt states (in_fork fork ss) n = ⊥
+abbrev pub ThreadStandsAt : (states : ℕ) → GraphSpot → (number : ℕ) → Type 0
+ThreadStandsAt states rests n = n ≡ states
+ThreadStandsAt states (in_state state) n = (n ≡ state) × (state < states)
+ThreadStandsAt states (in_fork fork ss) n = ⊥
 
 -- the registers are the clock of the step, the tick, the fault, the state, and then so many of the plan
 abbrev pub holds_thread : (states count : ℕ) → RegisterMeaning
 holds_thread states count spot clock tick fault registers net_registers =
-    (n : ℕ) × (StandsAt states spot n × ((length registers ≡ count) × (net_registers ≡ clock ∷ tick ∷ fault ∷ n ∷ registers)))
+    (n : ℕ) × (ThreadStandsAt states spot n × ((length registers ≡ count) × (net_registers ≡ clock ∷ tick ∷ fault ∷ n ∷ registers)))
 
 -- how many registers stand before those of the plan
 abbrev pub own_registers : ℕ

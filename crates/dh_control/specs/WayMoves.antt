@@ -12,7 +12,7 @@ use Rattle.dh_cells.specs.Settled.{Signals, IsSettled, Grows, IsWire, Shows, sho
 use Rattle.dh_cells.specs.ShownValues.{is_one, number_shown, more_shown}
 use Rattle.dh_control.specs.declared.leading.Branch.{Branch}
 use Rattle.dh_control.specs.declared.leading.Counted.{Counted}
-use Rattle.dh_control.specs.MovedValues.{Move, moved, AreMoves}
+use Rattle.dh_control.specs.MovedValues.{Move, moved_values, AreMoves}
 use Rattle.dh_control.specs.SizedWires.{shown_all}
 
 -- the way that a decision of one thread is
@@ -64,8 +64,8 @@ counts counter b c =
 pub record LeadAdded (old new : PlainCircuit) (width active number : ℕ) (before after : List Move) : Type 0 where
   pub grows : Grows old new
   pub fits : AreMoves old (width ∷ []) before → AreMoves new (width ∷ []) after
-  pub goes : (x : Signals) (n : ℕ) → IsSettled new x → is_one x active ≡ true → moved x after (n ∷ []) ≡ moved x before (number ∷ [])
-  pub stays : (x : Signals) (values : List ℕ) → IsSettled new x → is_one x active ≡ false → moved x after values ≡ moved x before values
+  pub goes : (x : Signals) (n : ℕ) → IsSettled new x → is_one x active ≡ true → moved_values x after (n ∷ []) ≡ moved_values x before (number ∷ [])
+  pub stays : (x : Signals) (values : List ℕ) → IsSettled new x → is_one x active ≡ false → moved_values x after values ≡ moved_values x before values
 
 -- Moves were added, in front of those that were there, for a way from registers that wires show.
 pub record WayAdded (old new : PlainCircuit) (widths : List ℕ) (width states active : ℕ) (after : List ℕ) (way : GraphWay) (moves more leads further : List Move) : Type 0 where
@@ -74,9 +74,9 @@ pub record WayAdded (old new : PlainCircuit) (widths : List ℕ) (width states a
   pub leads_fit : AreMoves old (width ∷ []) leads → AreMoves new (width ∷ []) further
   -- in a clock in which the thread goes on
   pub turns : (x : Signals) (kinds : List Kind) → IsSettled new x → map width_of kinds ≡ widths → is_one x active ≡ true
-      → moved x more (shown_all x after) ≡ moved x moves (resolve kinds way (shown_all x after)).registers
+      → moved_values x more (shown_all x after) ≡ moved_values x moves (resolve kinds way (shown_all x after)).registers
   pub goes : (x : Signals) (kinds : List Kind) (n : ℕ) → IsSettled new x → map width_of kinds ≡ widths → is_one x active ≡ true
-      → moved x further (n ∷ []) ≡ moved x leads (spot_number states (resolve kinds way (shown_all x after)).spot ∷ [])
+      → moved_values x further (n ∷ []) ≡ moved_values x leads (spot_number states (resolve kinds way (shown_all x after)).spot ∷ [])
   -- in any other
-  pub keeps : (x : Signals) (values : List ℕ) → IsSettled new x → is_one x active ≡ false → moved x more values ≡ moved x moves values
-  pub stays : (x : Signals) (values : List ℕ) → IsSettled new x → is_one x active ≡ false → moved x further values ≡ moved x leads values
+  pub keeps : (x : Signals) (values : List ℕ) → IsSettled new x → is_one x active ≡ false → moved_values x more values ≡ moved_values x moves values
+  pub stays : (x : Signals) (values : List ℕ) → IsSettled new x → is_one x active ≡ false → moved_values x further values ≡ moved_values x leads values

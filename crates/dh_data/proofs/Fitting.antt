@@ -18,8 +18,8 @@ use Rattle.dh_tree.specs.Shapes.{IsDim, IsMemory, IsProgramTable}
 use Rattle.dh_tree.specs.Tables.{elements_of, elements_in, most_elements, FitsEntry, Fits}
 use Rattle.dh_tree.specs.declared.tables.Dim.{Dim}
 use Rattle.dh_tree.specs.declared.tables.MemEntry.{MemEntry}
-use Rattle.dh_data.specs.DataFiles.{ReadsAs, EachItem, IsSized, joined, in_order, AreElements, IsContents, AreContents, Says, AreSaid, HasAll, Reads, IfTold}
-use Rattle.dh_data.specs.Reading.{IsHeld, Shows, IsSaid}
+use Rattle.dh_data.specs.DataFiles.{ReadsAs, EachItem, HasDeclaredSizes, joined_items, in_order, AreElements, IsContents, AreContents, Says, AreSaid, HasAll, ReadsDataFile, IfTold}
+use Rattle.dh_data.specs.Reading.{HasCountableNumbers, ValueMeans, IsSaid}
 use Rattle.dh_data.specs.declared.data_files.DataFault.{DataFault}
 use Rattle.dh_data.specs.declared.data_files.DataFault.TheVariants.{NotJson, Missing, Unknown, Format, Size, Value, NoMemory}
 
@@ -42,7 +42,7 @@ here_few a b m h = omega (arith, h)
 rest_few : (a b m : ℕ) → a + b ≤ m → b ≤ m
 rest_few a b m h = omega (arith, h)
 
-are_held : (es : List MemEntry) → AllByRecursion IsMemory es → elements_in es ≤ most_elements → AllByRecursion IsHeld es
+are_held : (es : List MemEntry) → AllByRecursion IsMemory es → elements_in es ≤ most_elements → AllByRecursion HasCountableNumbers es
 are_held [] h few = tt
 are_held (e ∷ es) h few = (
   record { integer = h.0.shape.integer; least = at_least_one e.shape.dims h.0.shape.dims; few = here_few (elements_of e.shape.dims) (elements_in es) most_elements few },
@@ -50,10 +50,10 @@ are_held (e ∷ es) h few = (
 )
 
 -- the memories of a program
-pub held : (es : List MemEntry) → IsProgramTable es → AllByRecursion IsHeld es
+pub held : (es : List MemEntry) → IsProgramTable es → AllByRecursion HasCountableNumbers es
 held es h = are_held es h.entries h.elements
 
-as_many_elements : (es : List MemEntry) → AllByRecursion IsHeld es → length es ≤ elements_in es
+as_many_elements : (es : List MemEntry) → AllByRecursion HasCountableNumbers es → length es ≤ elements_in es
 as_many_elements [] h = omega arith
 as_many_elements (e ∷ es) h =
     let here : 1 ≤ elements_of e.shape.dims = h.0.least in
@@ -65,17 +65,17 @@ few_memories es h = let many : length es ≤ elements_in es = as_many_elements e
 
 -- ---- lengths
 
-long_joined : (ns : List Dim) (ds : Items) → ((d : Data) → IsSized ns d → length (in_order ns d) ≡ elements_of ns) → EachItem (IsSized ns) ds → length (joined (in_order ns) ds) ≡ items_len ds * elements_of ns
+long_joined : (ns : List Dim) (ds : Items) → ((d : Data) → HasDeclaredSizes ns d → length (in_order ns d) ≡ elements_of ns) → EachItem (HasDeclaredSizes ns) ds → length (joined_items (in_order ns) ds) ≡ items_len ds * elements_of ns
 long_joined ns no_items each h = omega arith
 long_joined ns (item d ds) each h =
     let here : length (in_order ns d) ≡ elements_of ns = each d h.0 in
-    let rest : length (joined (in_order ns) ds) ≡ items_len ds * elements_of ns = long_joined ns ds each h.1 in
-    length-append (in_order ns d) (joined (in_order ns) ds) ∙ sum (length (in_order ns d)) (length (joined (in_order ns) ds)) (elements_of ns) (items_len ds) here rest
+    let rest : length (joined_items (in_order ns) ds) ≡ items_len ds * elements_of ns = long_joined ns ds each h.1 in
+    length-append (in_order ns d) (joined_items (in_order ns) ds) ∙ sum (length (in_order ns d)) (length (joined_items (in_order ns) ds)) (elements_of ns) (items_len ds) here rest
   where
     sum : (a b n i : ℕ) → a ≡ n → b ≡ i * n → a + b ≡ suc i * n
     sum a b n i h g = ap (λ x. x + b) h ∙ (ap (λ x. n + x) g ∙ omega arith)
 
-long_order : (ns : List Dim) (d : Data) → IsSized ns d → length (in_order ns d) ≡ elements_of ns
+long_order : (ns : List Dim) (d : Data) → HasDeclaredSizes ns d → length (in_order ns d) ≡ elements_of ns
 long_order [] d h = refl
 long_order (n ∷ ns) d h =
     let inside : length (in_order (n ∷ ns) (array h.0)) ≡ items_len h.0 * elements_of ns = long_joined ns h.0 (long_order ns) h.1.1.1 in
@@ -97,14 +97,14 @@ zeros_small : (w n : ℕ) → AllByRecursion (λ v. v < 2 ^ w) (replicate n 0)
 zeros_small w zero = tt
 zeros_small w (suc n) = (pow_pos w, zeros_small w n)
 
-fits_by : (ms : Members) (e : MemEntry) (v : List ℕ) (b : Bool) → e.outside ≡ b → IsHeld e → IsContents ms e v → FitsEntry e v
+fits_by : (ms : Members) (e : MemEntry) (v : List ℕ) (b : Bool) → e.outside ≡ b → HasCountableNumbers e → IsContents ms e v → FitsEntry e v
 fits_by ms e v true is h g =
     let r = g.outside is in
     record { long = as_long e.shape.kind (in_order e.shape.dims r.data_) v r.elements ∙ long_order e.shape.dims r.data_ r.sized; small = all_small e.shape.kind (in_order e.shape.dims r.data_) v h.integer r.elements }
 fits_by ms e v false is h g =
     subst (λ (x : List ℕ). FitsEntry e x) (sym (g.local is)) (record { long = length-replicate (elements_of e.shape.dims) 0; small = zeros_small (width_of e.shape.kind) (elements_of e.shape.dims) })
 
-all_fit : (ms : Members) (es : List MemEntry) (vs : List (List ℕ)) → AllByRecursion IsHeld es → AreContents ms es vs → Fits es vs
+all_fit : (ms : Members) (es : List MemEntry) (vs : List (List ℕ)) → AllByRecursion HasCountableNumbers es → AreContents ms es vs → Fits es vs
 all_fit ms [] [] h g = tt
 all_fit ms [] (v ∷ vs) h g = absurd g
 all_fit ms (e ∷ es) [] h g = absurd g
@@ -117,7 +117,7 @@ same_value : (bytes : List ℕ) (d e : Data) → ReadsAs bytes d → ReadsAs byt
 same_value bytes d e h g = same_Some _ _ (sym h.value ∙ g.value)
 
 -- what a value shows, its bytes mean
-pub shows_means : (table : List MemEntry) (bytes : List ℕ) (d : Data) (r : Result (List (List ℕ)) DataFault) → ReadsAs bytes d → Shows table d r → Reads table bytes r
+pub shows_means : (table : List MemEntry) (bytes : List ℕ) (d : Data) (r : Result (List (List ℕ)) DataFault) → ReadsAs bytes d → ValueMeans table d r → ReadsDataFile table bytes r
 shows_means table bytes d (Ok m) at h = said table bytes d (Ok m) at h
 shows_means table bytes d (Err NotJson) at h = λ ms other. h ms (same_value bytes d (object ms) at other)
 shows_means table bytes d (Err (Missing i)) at h = said table bytes d (Err (Missing i)) at h
@@ -128,7 +128,7 @@ shows_means table bytes d (Err (Value i p)) at h = said table bytes d (Err (Valu
 shows_means table bytes d (Err NoMemory) at h = tt
 
 -- and the contents fit
-pub shown_fits : (table : List MemEntry) (d : Data) (r : Result (List (List ℕ)) DataFault) → IsProgramTable table → Shows table d r → IfOk r (λ m. Fits table m)
+pub shown_fits : (table : List MemEntry) (d : Data) (r : Result (List (List ℕ)) DataFault) → IsProgramTable table → ValueMeans table d r → IfOk r (λ m. Fits table m)
 shown_fits table d (Ok m) h g = all_fit g.0 table m (held table h) g.1.1.1.1
 shown_fits table d (Err f) h g = tt
 
@@ -142,7 +142,7 @@ of_object (object m) ms e = ap object (same_Some _ _ (sym e))
 
 -- what an object says, a value that is one shows
 pub said_shows : (table : List MemEntry) (d : Data) (ms : Members) (r : Result (List (List ℕ)) DataFault) → d ≡ object ms → IfTold r (Says table ms r) → (r ≡ Err NoMemory → HasAll table ms)
-    → Shows table d r
+    → ValueMeans table d r
 said_shows table d ms (Ok m) is h refused = (ms, (is, h))
 said_shows table d ms (Err NotJson) is h refused = absurd h
 said_shows table d ms (Err (Missing i)) is h refused = (ms, (is, h))

@@ -12,7 +12,7 @@ use Rattle.dh_tree.specs.Tables.{elements_of}
 use Rattle.dh_tree.specs.declared.tables.Dim.{Dim}
 use Rattle.dh_tree.specs.declared.tables.MemEntry.{MemEntry}
 use Rattle.dh_data.specs.declared.reports.Ending.{Ending}
-use Rattle.dh_data.specs.Reports.{number_of, nested_data, rows, memory_data, outside_data, clocks_first, report_data}
+use Rattle.dh_data.specs.Reports.{number_of_bits, nested_data, rows, memory_data, outside_data, clocks_first, report_data}
 
 no_float : (z : ℤ) → is_float (of_integer z) ≡ false
 no_float (pos n) = refl
@@ -27,7 +27,7 @@ rows_none zero width list vs none = refl
 rows_none (suc n) width list vs none = both _ _ (none (take width vs)) (rows_none n width list (drop width vs) none)
 
 nested_none : (k : Kind) (dims : List Dim) (vs : List ℕ) → has_float (nested_data k dims vs) ≡ false
-nested_none k [] vs = no_float (number_of k (get_or vs 0 0))
+nested_none k [] vs = no_float (number_of_bits k (get_or vs 0 0))
 nested_none k (n ∷ ns) vs = rows_none n.size (elements_of ns) (nested_data k ns) vs (nested_none k ns)
 
 memory_none : (k : Kind) (dims : List Dim) (vs : List ℕ) → has_float (memory_data k dims vs) ≡ false

@@ -9,24 +9,24 @@ use Rattle.serde_json.specs.Data.{Data, Members}
 use Rattle.serde_json.specs.Written.{has_float, compact_text}
 use Rattle.dh_tree.specs.Tables.{FitsEntry, Fits}
 use Rattle.dh_tree.specs.declared.tables.MemEntry.{MemEntry}
-use Rattle.dh_data.specs.Reading.{IsHeld}
+use Rattle.dh_data.specs.Reading.{HasCountableNumbers}
 use Rattle.dh_data.specs.Reports.{outside_data, with_outside}
 use Rattle.dh_base.proofs.ListItems.{at_item}
 
 -- what a turn has and leaves
 pub record Turn (es rest : List MemEntry) (ms more : List (List ℕ)) (e : MemEntry) (m : List ℕ) : Type 0 where
-  pub entry : IsHeld e
+  pub entry : HasCountableNumbers e
   pub fits : FitsEntry e m
-  pub table : AllByRecursion IsHeld rest
+  pub table : AllByRecursion HasCountableNumbers rest
   pub rests : Fits rest more
   pub same : (found : Members) → outside_data es ms found ≡ outside_data rest more (with_outside e m found)
 
-cons_turn : (rest : List MemEntry) (more : List (List ℕ)) (e : MemEntry) (m : List ℕ) → AllByRecursion IsHeld (e ∷ rest) → Fits (e ∷ rest) (m ∷ more) → Turn (e ∷ rest) rest (m ∷ more) more e m
+cons_turn : (rest : List MemEntry) (more : List (List ℕ)) (e : MemEntry) (m : List ℕ) → AllByRecursion HasCountableNumbers (e ∷ rest) → Fits (e ∷ rest) (m ∷ more) → Turn (e ∷ rest) rest (m ∷ more) more e m
 cons_turn rest more e m table fits = record { entry = table.0; fits = fits.0; table = table.1; rests = fits.1; same = λ found. refl }
 
-is_turn : (es rest : List MemEntry) (ms more : List (List ℕ)) (e : MemEntry) (m : List ℕ) → es ≡ e ∷ rest → ms ≡ m ∷ more → AllByRecursion IsHeld es → Fits es ms → Turn es rest ms more e m
+is_turn : (es rest : List MemEntry) (ms more : List (List ℕ)) (e : MemEntry) (m : List ℕ) → es ≡ e ∷ rest → ms ≡ m ∷ more → AllByRecursion HasCountableNumbers es → Fits es ms → Turn es rest ms more e m
 is_turn es rest ms more e m first list table fits =
-    let table' : AllByRecursion IsHeld (e ∷ rest) = subst (λ (x : List MemEntry). AllByRecursion IsHeld x) first table in
+    let table' : AllByRecursion HasCountableNumbers (e ∷ rest) = subst (λ (x : List MemEntry). AllByRecursion HasCountableNumbers x) first table in
     let fits' : Fits (e ∷ rest) (m ∷ more) = subst (λ (x : List MemEntry). Fits x (m ∷ more)) first (subst (λ (x : List (List ℕ)). Fits es x) list fits) in
     subst (λ (x : List MemEntry). Turn x rest ms more e m) (sym first) (subst (λ (x : List (List ℕ)). Turn (e ∷ rest) rest x more e m) (sym list) (cons_turn rest more e m table' fits'))
 
@@ -39,7 +39,7 @@ fits_there (e ∷ es) (m ∷ ms) zero within fits = omega arith
 fits_there (e ∷ es) (m ∷ ms) (suc i) within fits = let less : i < length ms = fits_there es ms i (omega (arith, within)) fits in omega (arith, less)
 
 pub turn : (es : List MemEntry) (lists : List (Vec ℕ Global)) (i : ℕ) (e : MemEntry) (v : Vec ℕ Global) → i < length es → e ≡ get_or es i e → v ≡ get_or lists i v
-    → AllByRecursion IsHeld (drop i es) → Fits (drop i es) (drop i (map (λ x. x.items) lists)) → Turn (drop i es) (drop (i + 1) es) (drop i (map (λ x. x.items) lists)) (drop (i + 1) (map (λ x. x.items) lists)) e v.items
+    → AllByRecursion HasCountableNumbers (drop i es) → Fits (drop i es) (drop i (map (λ x. x.items) lists)) → Turn (drop i es) (drop (i + 1) es) (drop i (map (λ x. x.items) lists)) (drop (i + 1) (map (λ x. x.items) lists)) e v.items
 turn es lists i e v within is list table fits =
     let long : i < length (map (λ x. x.items) lists) = fits_there es (map (λ x. x.items) lists) i within fits in
     let there : i < length lists = subst (λ n. i < n) (length-map lists (λ x. x.items)) long in

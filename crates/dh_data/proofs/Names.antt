@@ -19,31 +19,31 @@ use Rattle.serde_json.specs.Data.{Members}
 use Rattle.serde_json.specs.View.{members_view}
 use Rattle.serde_json.proofs.Views.{Entry}
 use Rattle.dh_tree.specs.declared.tables.MemEntry.{MemEntry}
-use Rattle.dh_data.specs.DataFiles.{names_of, outside_names, Lacks, IsLeastUnknown, IsFirst}
+use Rattle.dh_data.specs.DataFiles.{names_of, outside_names, Lacks, IsLeastUnknown, IsFirstIndex}
 use Rattle.dh_data.specs.Reading.{first_other, FindsUnknown}
 
 -- ---- the first memory without a member
 
 -- what the memories from a place on tell of all
 pub record Leads (ms : Members) (rest all : List MemEntry) (i : ℕ) : Type 0 where
-  pub first : (j : ℕ) → IsFirst (Lacks ms) rest j → IsFirst (Lacks ms) all (i + j)
+  pub first : (j : ℕ) → IsFirstIndex (Lacks ms) rest j → IsFirstIndex (Lacks ms) all (i + j)
   pub none : AllByRecursion (λ e. Lacks ms e → ⊥) rest → AllByRecursion (λ e. Lacks ms e → ⊥) all
 
 pub leads_start : (ms : Members) (all : List MemEntry) → Leads ms all all 0
-leads_start ms all = record { first = λ j h. subst (λ n. IsFirst (Lacks ms) all n) (sym (zero-add j)) h; none = λ h. h }
+leads_start ms all = record { first = λ j h. subst (λ n. IsFirstIndex (Lacks ms) all n) (sym (zero-add j)) h; none = λ h. h }
 
 pub leads_on : (ms : Members) (rest more all : List MemEntry) (e : MemEntry) (i : ℕ) → rest ≡ e ∷ more → (Lacks ms e → ⊥) → Leads ms rest all i → Leads ms more all (i + 1)
 leads_on ms rest more all e i list has l =
     let k : Leads ms (e ∷ more) all i = subst (λ (x : List MemEntry). Leads ms x all i) list l in
     record {
-      first = λ j h. subst (λ n. IsFirst (Lacks ms) all n) (omega arith) (k.first (suc j) (has, h));
+      first = λ j h. subst (λ n. IsFirstIndex (Lacks ms) all n) (omega arith) (k.first (suc j) (has, h));
       none = λ h. k.none (has, h);
     }
 
-pub leads_here : (ms : Members) (rest more all : List MemEntry) (e : MemEntry) (i : ℕ) → rest ≡ e ∷ more → Lacks ms e → Leads ms rest all i → IsFirst (Lacks ms) all i
+pub leads_here : (ms : Members) (rest more all : List MemEntry) (e : MemEntry) (i : ℕ) → rest ≡ e ∷ more → Lacks ms e → Leads ms rest all i → IsFirstIndex (Lacks ms) all i
 leads_here ms rest more all e i list lacks l =
     let k : Leads ms (e ∷ more) all i = subst (λ (x : List MemEntry). Leads ms x all i) list l in
-    subst (λ n. IsFirst (Lacks ms) all n) (omega arith) (k.first 0 lacks)
+    subst (λ n. IsFirstIndex (Lacks ms) all n) (omega arith) (k.first 0 lacks)
 
 pub leads_end : (ms : Members) (rest all : List MemEntry) (i : ℕ) → rest ≡ [] → Leads ms rest all i → AllByRecursion (λ e. Lacks ms e → ⊥) all
 leads_end ms rest all i list l = (subst (λ (x : List MemEntry). Leads ms x all i) list l).none tt

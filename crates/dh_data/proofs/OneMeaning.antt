@@ -12,20 +12,20 @@ use Rattle.serde_json.specs.Find.{get_member, as_object}
 use Rattle.dh_value.specs.Words.{word_of}
 use Rattle.dh_value.specs.declared.kinds.Kind.{Kind}
 use Rattle.dh_tree.specs.declared.tables.MemEntry.{MemEntry}
-use Rattle.dh_data.specs.DataFiles.{ReadsAs, Lacks, IsLeastUnknown, HasAll, HasNoOther, Offers, IsSized, in_order, IsElement, IsNoElement, AreElements, IsContents, AreContents, IsFirst, IsOtherFormat, IsOtherSize, IsOtherValue, StopsAt, Says, AreSaid, Means, IfTold}
+use Rattle.dh_data.specs.DataFiles.{ReadsAs, Lacks, IsLeastUnknown, HasAll, HasNoOther, Offers, HasDeclaredSizes, in_order, IsDataElement, IsNoElement, AreElements, IsContents, AreContents, IsFirstIndex, IsOtherFormat, IsOtherSize, IsOtherValue, StopsAt, Says, AreSaid, Means, IfTold}
 use Rattle.dh_data.specs.declared.data_files.DataFault.{DataFault}
 use Rattle.dh_data.specs.declared.data_files.DataFault.TheVariants.{NotJson, Missing, Unknown, Format, Size, Value, NoMemory}
 
 -- ---- places
 
-one_first : {A : Type 0} (P : A → Type 0) (xs : List A) (i j : ℕ) → IsFirst P xs i → IsFirst P xs j → i ≡ j
+one_first : {A : Type 0} (P : A → Type 0) (xs : List A) (i j : ℕ) → IsFirstIndex P xs i → IsFirstIndex P xs j → i ≡ j
 one_first P [] i j h g = absurd h
 one_first P (x ∷ xs) zero zero h g = refl
 one_first P (x ∷ xs) zero (suc j) h g = absurd (g.0 h)
 one_first P (x ∷ xs) (suc i) zero h g = absurd (h.0 g)
 one_first P (x ∷ xs) (suc i) (suc j) h g = ap suc (one_first P xs i j h.1 g.1)
 
-no_first : {A : Type 0} (P : A → Type 0) (xs : List A) (i : ℕ) → IsFirst P xs i → AllByRecursion (λ x. P x → ⊥) xs → ⊥
+no_first : {A : Type 0} (P : A → Type 0) (xs : List A) (i : ℕ) → IsFirstIndex P xs i → AllByRecursion (λ x. P x → ⊥) xs → ⊥
 no_first P [] i h g = absurd h
 no_first P (x ∷ xs) zero h g = g.0 h
 no_first P (x ∷ xs) (suc i) h g = no_first P xs i h.1 g.1
@@ -51,7 +51,7 @@ one_data k o c d h g =
     let members : h.members ≡ g.members = same_Some _ _ (ap as_object objects) in
     same_Some _ _ (sym h.data_is ∙ (ap (λ ms. get_member (codes "data") ms) members ∙ g.data_is))
 
-one_element : (k : Kind) (d : Data) (v w : ℕ) → IsElement k d v → IsElement k d w → v ≡ w
+one_element : (k : Kind) (d : Data) (v w : ℕ) → IsDataElement k d v → IsDataElement k d w → v ≡ w
 one_element k d v w h g =
     let same : h.z ≡ g.z = same_Some _ _ (sym h.whole ∙ g.whole) in
     h.bits_are ∙ (ap (λ z. (word_of k z).bits) same ∙ sym g.bits_are)
@@ -64,7 +64,7 @@ one_elements k (d ∷ ds) [] ws h g = absurd h
 one_elements k (d ∷ ds) (v ∷ vs) [] h g = absurd g
 one_elements k (d ∷ ds) (v ∷ vs) (w ∷ ws) h g = ap (λ x. x ∷ vs) (one_element k d v w h.0 g.0) ∙ ap (λ xs. w ∷ xs) (one_elements k ds vs ws h.1 g.1)
 
-all_elements : (k : Kind) (ds : List Data) (vs : List ℕ) (p : ℕ) → AreElements k ds vs → IsFirst (IsNoElement k) ds p → ⊥
+all_elements : (k : Kind) (ds : List Data) (vs : List ℕ) (p : ℕ) → AreElements k ds vs → IsFirstIndex (IsNoElement k) ds p → ⊥
 all_elements k [] vs p h g = absurd g
 all_elements k (d ∷ ds) [] p h g = absurd h
 all_elements k (d ∷ ds) (v ∷ vs) zero h g = g v h.0
@@ -104,13 +104,13 @@ fault_of format i = Format i
 fault_of size i = Size i
 fault_of (value p) i = Value i p
 
-sized_same : (ms : Members) (e : MemEntry) (c d : Data) → Offers e.shape.kind (get_member e.name ms) c → Offers e.shape.kind (get_member e.name ms) d → IsSized e.shape.dims c → IsSized e.shape.dims d
-sized_same ms e c d h g s = subst (λ x. IsSized e.shape.dims x) (one_data e.shape.kind (get_member e.name ms) c d h g) s
+sized_same : (ms : Members) (e : MemEntry) (c d : Data) → Offers e.shape.kind (get_member e.name ms) c → Offers e.shape.kind (get_member e.name ms) d → HasDeclaredSizes e.shape.dims c → HasDeclaredSizes e.shape.dims d
+sized_same ms e c d h g s = subst (λ x. HasDeclaredSizes e.shape.dims x) (one_data e.shape.kind (get_member e.name ms) c d h g) s
 
 one_position : (ms : Members) (e : MemEntry) (p q : ℕ) → IsOtherValue ms p e → IsOtherValue ms q e → p ≡ q
 one_position ms e p q h g =
     let same : h.data_ ≡ g.data_ = one_data e.shape.kind (get_member e.name ms) h.data_ g.data_ h.offers g.offers in
-    one_first (IsNoElement e.shape.kind) (in_order e.shape.dims g.data_) p q (subst (λ d. IsFirst (IsNoElement e.shape.kind) (in_order e.shape.dims d) p) same h.first) g.first
+    one_first (IsNoElement e.shape.kind) (in_order e.shape.dims g.data_) p q (subst (λ d. IsFirstIndex (IsNoElement e.shape.kind) (in_order e.shape.dims d) p) same h.first) g.first
 
 one_wrong : (ms : Members) (e : MemEntry) (t u : Wrong) → IsWrong ms t e → IsWrong ms u e → t ≡ u
 one_wrong ms e format format h g = refl
@@ -166,7 +166,7 @@ answer_of (stops t i) = Err (fault_of t i)
 answer_of (right m) = Ok m
 
 abbrev SaysPart : List MemEntry → Members → Part → Type 0
-SaysPart table ms (missing i) = IsFirst (Lacks ms) table i
+SaysPart table ms (missing i) = IsFirstIndex (Lacks ms) table i
 SaysPart table ms (unknown n) = HasAll table ms × IsLeastUnknown table ms n
 SaysPart table ms (stops t i) = HasAll table ms × (HasNoOther table ms × StopsAt (IsWrong ms t) ms table i)
 SaysPart table ms (right m) = HasAll table ms × (HasNoOther table ms × AreContents ms table m)

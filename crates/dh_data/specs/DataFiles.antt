@@ -74,16 +74,16 @@ pub record IsFormat (k : Kind) (format : Data) : Type 0 where
   pub numeric : IsThisIfThere (get_member (codes "numeric_type") members) (string (codes "bitnum"))
   pub width : IsThisIfThere (get_member (codes "width") members) (number (unsigned (width_of k)))
 
-abbrev pub Agrees : Kind → Option Data → Type 0
-Agrees k None = Unit {0}
-Agrees k (Some format) = IsFormat k format
+abbrev pub FormatAgrees : Kind → Option Data → Type 0
+FormatAgrees k None = Unit {0}
+FormatAgrees k (Some format) = IsFormat k format
 
 -- what was found under a memory's name is an object with this `data`, and its `format` agrees
 pub record Offers (k : Kind) (found : Option Data) (d : Data) : Type 0 where
   pub members : Members
   pub whole : found ≡ Some (object members)
   pub data_is : get_member (codes "data") members ≡ Some d
-  pub format : Agrees k (get_member (codes "format") members)
+  pub format : FormatAgrees k (get_member (codes "format") members)
 
 -- ---- nested lists
 
@@ -92,14 +92,14 @@ EachItem P no_items = Unit {0}
 EachItem P (item d ds) = P d × EachItem P ds
 
 -- lists nested by dimensions, each as long as declared; where an element is to stand, no list
-abbrev pub IsSized : List Dim → Data → Type 0
-IsSized [] d = (items : Items) → d ≡ array items → ⊥
-IsSized (n ∷ ns) d = (items : Items) × ((d ≡ array items) × ((items_len items ≡ n.size) × EachItem (IsSized ns) items))
+abbrev pub HasDeclaredSizes : List Dim → Data → Type 0
+HasDeclaredSizes [] d = (items : Items) → d ≡ array items → ⊥
+HasDeclaredSizes (n ∷ ns) d = (items : Items) × ((d ≡ array items) × ((items_len items ≡ n.size) × EachItem (HasDeclaredSizes ns) items))
 
 -- what f gives of each item, joined
-abbrev pub joined : (Data → List Data) → Items → List Data
-joined f no_items = []
-joined f (item d ds) = f d ++ joined f ds
+abbrev pub joined_items : (Data → List Data) → Items → List Data
+joined_items f no_items = []
+joined_items f (item d ds) = f d ++ joined_items f ds
 
 abbrev pub items_in : Data → Items
 items_in d = unwrap_or (as_array d) no_items
@@ -107,7 +107,7 @@ items_in d = unwrap_or (as_array d) no_items
 -- the elements of nested lists in row-major order
 abbrev pub in_order : List Dim → Data → List Data
 in_order [] d = d ∷ []
-in_order (n ∷ ns) d = joined (in_order ns) (items_in d)
+in_order (n ∷ ns) d = joined_items (in_order ns) (items_in d)
 
 -- ---- elements
 
@@ -116,7 +116,7 @@ abbrev pub IsWhole : Data → ℤ → Type 0
 IsWhole d z = option_and_then as_integer (as_number d) ≡ Some z
 
 -- the value is a whole number of a kind, which has these bits
-pub record IsElement (k : Kind) (d : Data) (bits : ℕ) : Type 0 where
+pub record IsDataElement (k : Kind) (d : Data) (bits : ℕ) : Type 0 where
   pub z : ℤ
   pub whole : IsWhole d z
   pub of_kind : IsValue k z
@@ -124,27 +124,27 @@ pub record IsElement (k : Kind) (d : Data) (bits : ℕ) : Type 0 where
 
 -- the value is no whole number of a kind
 abbrev pub IsNoElement : Kind → Data → Type 0
-IsNoElement k d = (bits : ℕ) → IsElement k d bits → ⊥
+IsNoElement k d = (bits : ℕ) → IsDataElement k d bits → ⊥
 
 -- the values are whole numbers of a kind, which have these bits
 abbrev pub AreElements : Kind → List Data → List ℕ → Type 0
 AreElements k [] [] = Unit {0}
 AreElements k [] (v ∷ vs) = ⊥
 AreElements k (d ∷ ds) [] = ⊥
-AreElements k (d ∷ ds) (v ∷ vs) = IsElement k d v × AreElements k ds vs
+AreElements k (d ∷ ds) (v ∷ vs) = IsDataElement k d v × AreElements k ds vs
 
 -- ---- the contents of memories
 
 -- the member of an outside memory has these elements
-pub record IsRead (ms : Members) (e : MemEntry) (values : List ℕ) : Type 0 where
+pub record MemberHasElements (ms : Members) (e : MemEntry) (values : List ℕ) : Type 0 where
   pub data_ : Data
   pub offers : Offers e.shape.kind (get_member e.name ms) data_
-  pub sized : IsSized e.shape.dims data_
+  pub sized : HasDeclaredSizes e.shape.dims data_
   pub elements : AreElements e.shape.kind (in_order e.shape.dims data_) values
 
 -- a memory has these contents: an outside one those of its member, a local one zeros
 pub record IsContents (ms : Members) (e : MemEntry) (values : List ℕ) : Type 0 where
-  pub outside : e.outside ≡ true → IsRead ms e values
+  pub outside : e.outside ≡ true → MemberHasElements ms e values
   pub local : e.outside ≡ false → values ≡ replicate (elements_of e.shape.dims) 0
 
 abbrev pub AreContents : Members → List MemEntry → List (List ℕ) → Type 0
@@ -156,10 +156,10 @@ AreContents ms (e ∷ es) (m ∷ more) = IsContents ms e m × AreContents ms es 
 -- ---- faults
 
 -- the place of the first of which something holds
-abbrev pub IsFirst : {A : Type 0} → (A → Type 0) → List A → ℕ → Type 0
-IsFirst P [] i = ⊥
-IsFirst P (x ∷ xs) zero = P x
-IsFirst P (x ∷ xs) (suc i) = (P x → ⊥) × IsFirst P xs i
+abbrev pub IsFirstIndex : {A : Type 0} → (A → Type 0) → List A → ℕ → Type 0
+IsFirstIndex P [] i = ⊥
+IsFirstIndex P (x ∷ xs) zero = P x
+IsFirstIndex P (x ∷ xs) (suc i) = (P x → ⊥) × IsFirstIndex P xs i
 
 -- the member of an outside memory is no object with `data` and a `format` that agrees
 pub record IsOtherFormat (ms : Members) (e : MemEntry) : Type 0 where
@@ -171,15 +171,15 @@ pub record IsOtherSize (ms : Members) (e : MemEntry) : Type 0 where
   pub outside : e.outside ≡ true
   pub data_ : Data
   pub offers : Offers e.shape.kind (get_member e.name ms) data_
-  pub other : IsSized e.shape.dims data_ → ⊥
+  pub other : HasDeclaredSizes e.shape.dims data_ → ⊥
 
 -- they are, and the element at this position is the first that is no whole number of the kind
 pub record IsOtherValue (ms : Members) (position : ℕ) (e : MemEntry) : Type 0 where
   pub outside : e.outside ≡ true
   pub data_ : Data
   pub offers : Offers e.shape.kind (get_member e.name ms) data_
-  pub sized : IsSized e.shape.dims data_
-  pub first : IsFirst (IsNoElement e.shape.kind) (in_order e.shape.dims data_) position
+  pub sized : HasDeclaredSizes e.shape.dims data_
+  pub first : IsFirstIndex (IsNoElement e.shape.kind) (in_order e.shape.dims data_) position
 
 -- of the memory with this number something holds, and each before it has contents
 abbrev pub StopsAt : (MemEntry → Type 0) → Members → List MemEntry → ℕ → Type 0
@@ -193,7 +193,7 @@ StopsAt P ms (e ∷ es) (suc i) = ((values : List ℕ) × IsContents ms e values
 abbrev pub Says : List MemEntry → Members → Result (List (List ℕ)) DataFault → Type 0
 Says table ms (Ok memories) = HasAll table ms × (HasNoOther table ms × AreContents ms table memories)
 Says table ms (Err NotJson) = ⊥
-Says table ms (Err (Missing i)) = IsFirst (Lacks ms) table i
+Says table ms (Err (Missing i)) = IsFirstIndex (Lacks ms) table i
 Says table ms (Err (Unknown name)) = HasAll table ms × IsLeastUnknown table ms name
 Says table ms (Err (Format i)) = HasAll table ms × (HasNoOther table ms × StopsAt (IsOtherFormat ms) ms table i)
 Says table ms (Err (Size i)) = HasAll table ms × (HasNoOther table ms × StopsAt (IsOtherSize ms) ms table i)
@@ -233,8 +233,8 @@ IfTold (Err (Value i position)) P = P
 IfTold (Err NoMemory) P = Unit {0}
 
 -- what `read` answers: what the bytes mean, but where memory was refused
-abbrev pub Reads : List MemEntry → List ℕ → Result (List (List ℕ)) DataFault → Type 0
-Reads table bytes answer = IfTold answer (Means table bytes answer)
+abbrev pub ReadsDataFile : List MemEntry → List ℕ → Result (List (List ℕ)) DataFault → Type 0
+ReadsDataFile table bytes answer = IfTold answer (Means table bytes answer)
 
 -- the bytes mean what was answered, and nothing else, but where memory was refused
 abbrev pub IsOnlyMeaning : List MemEntry → List ℕ → Result (List (List ℕ)) DataFault → Type 0

@@ -17,7 +17,7 @@ use Rattle.dh_value.specs.Words.{IsInteger, width_of}
 use Rattle.dh_tree.specs.Tables.{elements_of, most_elements}
 use Rattle.dh_tree.specs.declared.tables.Dim.{Dim}
 use Rattle.dh_tree.specs.declared.tables.MemEntry.{MemEntry}
-use Rattle.dh_data.specs.DataFiles.{outside_names, Lacks, HasAll, HasNoOther, IsLeastUnknown, Offers, IsSized, in_order, IsElement, IsNoElement, AreElements, IsContents, AreContents, IsFirst, IsOtherFormat, IsOtherSize, IsOtherValue, StopsAt, Says}
+use Rattle.dh_data.specs.DataFiles.{outside_names, Lacks, HasAll, HasNoOther, IsLeastUnknown, Offers, HasDeclaredSizes, in_order, IsDataElement, IsNoElement, AreElements, IsContents, AreContents, IsFirstIndex, IsOtherFormat, IsOtherSize, IsOtherValue, StopsAt, Says}
 use Rattle.dh_data.specs.declared.data_files.DataFault.{DataFault}
 use Rattle.dh_data.specs.declared.data_files.DataFault.TheVariants.{NotJson, Missing, Unknown, Format, Size, Value, NoMemory}
 
@@ -25,7 +25,7 @@ abbrev pub bitnum : List ℕ
 bitnum = codes "bitnum"
 
 -- the elements of a memory have a kind of numbers, and are not too many to count
-pub record IsHeld (e : MemEntry) : Type 0 where
+pub record HasCountableNumbers (e : MemEntry) : Type 0 where
   pub integer : IsInteger e.shape.kind
   pub least : 1 ≤ elements_of e.shape.dims
   pub few : elements_of e.shape.dims ≤ most_elements
@@ -35,23 +35,23 @@ abbrev pub IsSaid : List MemEntry → Data → Result (List (List ℕ)) DataFaul
 IsSaid table d answer = (ms : Members) × ((d ≡ object ms) × Says table ms answer)
 
 -- a value is an object that has a member for each outside memory
-abbrev pub IsWhole : List MemEntry → Data → Type 0
-IsWhole table d = (ms : Members) × ((d ≡ object ms) × HasAll table ms)
+abbrev pub HasAllMembers : List MemEntry → Data → Type 0
+HasAllMembers table d = (ms : Members) × ((d ≡ object ms) × HasAll table ms)
 
 -- what a value means for a table; memory is refused only where it is an object that lacks no member
-abbrev pub Shows : List MemEntry → Data → Result (List (List ℕ)) DataFault → Type 0
-Shows table d (Ok memories) = IsSaid table d (Ok memories)
-Shows table d (Err NotJson) = (ms : Members) → d ≡ object ms → ⊥
-Shows table d (Err (Missing i)) = IsSaid table d (Err (Missing i))
-Shows table d (Err (Unknown name)) = IsSaid table d (Err (Unknown name))
-Shows table d (Err (Format i)) = IsSaid table d (Err (Format i))
-Shows table d (Err (Size i)) = IsSaid table d (Err (Size i))
-Shows table d (Err (Value i position)) = IsSaid table d (Err (Value i position))
-Shows table d (Err NoMemory) = IsWhole table d
+abbrev pub ValueMeans : List MemEntry → Data → Result (List (List ℕ)) DataFault → Type 0
+ValueMeans table d (Ok memories) = IsSaid table d (Ok memories)
+ValueMeans table d (Err NotJson) = (ms : Members) → d ≡ object ms → ⊥
+ValueMeans table d (Err (Missing i)) = IsSaid table d (Err (Missing i))
+ValueMeans table d (Err (Unknown name)) = IsSaid table d (Err (Unknown name))
+ValueMeans table d (Err (Format i)) = IsSaid table d (Err (Format i))
+ValueMeans table d (Err (Size i)) = IsSaid table d (Err (Size i))
+ValueMeans table d (Err (Value i position)) = IsSaid table d (Err (Value i position))
+ValueMeans table d (Err NoMemory) = HasAllMembers table d
 
 -- the first memory without a member, or that there is none
 abbrev pub FindsMissing : List MemEntry → Members → Option ℕ → Type 0
-FindsMissing table ms (Some i) = IsFirst (Lacks ms) table i
+FindsMissing table ms (Some i) = IsFirstIndex (Lacks ms) table i
 FindsMissing table ms None = AllByRecursion (λ e. Lacks ms e → ⊥) table
 
 -- the least unknown name, or that there is none
@@ -76,7 +76,7 @@ SaysLists table ms (Err NoMemory) = Unit {0}
 
 -- nothing keeps the contents of a memory from being read but an element, or want of memory
 abbrev pub MayBeRead : Members → MemEntry → Type 0
-MayBeRead ms e = e.outside ≡ true → (d : Data) × (Offers e.shape.kind (get_member e.name ms) d × IsSized e.shape.dims d)
+MayBeRead ms e = e.outside ≡ true → (d : Data) × (Offers e.shape.kind (get_member e.name ms) d × HasDeclaredSizes e.shape.dims d)
 
 -- the contents of the memory with this number, or its fault; memory is refused only where its member has a
 -- format that agrees, and lists of the sizes declared
@@ -97,22 +97,22 @@ FindsData k found None = (d : Data) → Offers k found d → ⊥
 
 -- the bits of a whole number of a kind, or that it is none
 abbrev pub FindsElement : Kind → Data → Option ℕ → Type 0
-FindsElement k d (Some bits) = IsElement k d bits
+FindsElement k d (Some bits) = IsDataElement k d bits
 FindsElement k d None = IsNoElement k d
 
 -- the bits of these elements were added, all of them or those before the first that is none
 abbrev pub PushesBits : Kind → List Data → List ℕ → Bool → Type 0
 PushesBits k ds bits true = AreElements k ds bits
-PushesBits k ds bits false = IsFirst (IsNoElement k) ds (length bits)
+PushesBits k ds bits false = IsFirstIndex (IsNoElement k) ds (length bits)
 
-pub record Pushes (k : Kind) (ds : List Data) (old new : List ℕ) (all : Bool) : Type 0 where
+pub record PushesElements (k : Kind) (ds : List Data) (old new : List ℕ) (all : Bool) : Type 0 where
   pub bits : List ℕ
   pub added : new ≡ old ++ bits
   pub are : PushesBits k ds bits all
 
 -- the elements of nested lists were added so
 abbrev pub PushesAll : Kind → List Dim → Data → (old new : List ℕ) → Bool → Type 0
-PushesAll k dims d old new all = Pushes k (in_order dims d) old new all
+PushesAll k dims d old new all = PushesElements k (in_order dims d) old new all
 
 -- the elements of nested lists were added so behind the values of a memory
 abbrev pub PushesBehind : Kind → List Dim → Data → (old new : Vec ℕ Global) → Bool → Type 0

@@ -6,8 +6,6 @@ use Rattle.serde_json.specs.Find.{of_integer}
 use Rattle.serde_json.specs.View.{items_of, members_view}
 use Rattle.serde_json.specs.Written.{compact_text}
 use Rattle.serde_json.specs.declared.value.Value.{Value}
-use Rattle.dh_base.specs.declared.outcomes.FaultKind.{FaultKind}
-use Rattle.dh_base.specs.declared.outcomes.FaultKind.TheVariants as fault
 use Rattle.dh_base.specs.declared.outcomes.Outcome.{Outcome}
 use Rattle.dh_base.specs.declared.outcomes.Outcome.TheVariants as outcome
 use Rattle.dh_base.specs.declared.places.Place.{Place}
@@ -18,14 +16,15 @@ use Rattle.dh_tree.specs.Tables.{elements_of}
 use Rattle.dh_tree.specs.declared.tables.Dim.{Dim}
 use Rattle.dh_tree.specs.declared.tables.MemEntry.{MemEntry}
 use Rattle.dh_data.specs.declared.reports.Ending.{Ending}
+use Rattle.dh_base.specs.Faults.{fault_name}
 
 -- ---- memories
 
 -- the number that bits of a kind stand for, in two's complement where the kind is signed
-abbrev pub number_of : Kind → ℕ → ℤ
-number_of kind.Bool bits = pos bits
-number_of (kind.Unsigned w) bits = pos bits
-number_of (kind.Signed w) bits = if nat_lt (2 * bits) (2 ^ w) then pos bits else pos bits -ℤ pos (2 ^ w)
+abbrev pub number_of_bits : Kind → ℕ → ℤ
+number_of_bits kind.Bool bits = pos bits
+number_of_bits (kind.Unsigned w) bits = pos bits
+number_of_bits (kind.Signed w) bits = if nat_lt (2 * bits) (2 ^ w) then pos bits else pos bits -ℤ pos (2 ^ w)
 
 abbrev pub is_signed : Kind → Bool
 is_signed kind.Bool = false
@@ -34,7 +33,7 @@ is_signed (kind.Signed w) = true
 
 -- an element
 abbrev pub element_data : Kind → ℕ → Data
-element_data k bits = number (of_integer (number_of k bits))
+element_data k bits = number (of_integer (number_of_bits k bits))
 
 -- so many lists, each of the next values of its width
 abbrev pub rows : ℕ → (width : ℕ) → (List ℕ → Data) → List ℕ → List Data
@@ -72,9 +71,6 @@ abbrev pub PutsMemory : MemEntry → List ℕ → (old new : List (String Global
 PutsMemory e m old new = members_view new ≡ with_outside e m (members_view old)
 
 -- ---- outcomes
-
-abbrev pub fault_name : FaultKind → List ℕ
-fault_name fault.OutOfRange = codes "OutOfRange"
 
 abbrev pub place_text : Place → List ℕ
 place_text p = decimal p.line ++ (codes ":" ++ decimal p.column)

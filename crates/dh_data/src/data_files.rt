@@ -5,8 +5,8 @@ ghost use Rattle.std.specs.List.{AllByRecursion};
 ghost use Rattle.serde_json.specs.View.{view, members_view};
 ghost use Rattle.dh_tree.specs.Shapes.{IsProgramTable};
 ghost use Rattle.dh_tree.specs.Tables.{Fits};
-ghost use Rattle.dh_data.specs.DataFiles.{Reads, IfTold, Says, HasAll, IsOnlyMeaning};
-ghost use Rattle.dh_data.specs.Reading.{IfRefused, IsHeld, Shows, FindsMissing, FindsUnknown, KnowsNames, SaysLists};
+ghost use Rattle.dh_data.specs.DataFiles.{ReadsDataFile, IfTold, Says, HasAll, IsOnlyMeaning};
+ghost use Rattle.dh_data.specs.Reading.{IfRefused, HasCountableNumbers, ValueMeans, FindsMissing, FindsUnknown, KnowsNames, SaysLists};
 
 use crate::members::{contents_of, member};
 use dh_tree::{MemEntry, MemTable, Memories, Name};
@@ -80,7 +80,7 @@ impl<T: Drop> From<AllocFailed<T>> for DataFault {
 /// order of indices. Any bytes are safe. Takes time linear in the bytes and, for n memories, n log n.
 pub fn read(alloc: Global, table: &MemTable, bytes: &[u8]) -> Result<Memories, DataFault>
     requires { IsProgramTable table.now }
-    ensures reads { Reads table.now bytes.now result }
+    ensures reads { ReadsDataFile table.now bytes.now result }
     ensures only { IsOnlyMeaning table.now bytes.now result }
     ensures fits { IfOk result (λ m. Fits table.now m) }
 {
@@ -98,7 +98,7 @@ pub fn read(alloc: Global, table: &MemTable, bytes: &[u8]) -> Result<Memories, D
 
 fn contents_in(alloc: Global, table: &MemTable, value: &Value) -> Result<Memories, DataFault>
     requires { IsProgramTable table.now }
-    ensures { Shows table.now (view value.now) result }
+    ensures { ValueMeans table.now (view value.now) result }
 {
     match value.as_object() {
         Some(members) => contents_by(alloc, table.as_slice(), members),
@@ -111,7 +111,7 @@ fn contents_by(
     entries: &[MemEntry],
     members: &Map<String, Value>,
 ) -> Result<Memories, DataFault>
-    requires entries { AllByRecursion IsHeld entries.now }
+    requires entries { AllByRecursion HasCountableNumbers entries.now }
     requires few { length entries.now < 2 ^ 32 }
     ensures says { IfTold result (Says entries.now (members_view members.now.entries) result) }
     ensures refused { IfRefused result (HasAll entries.now (members_view members.now.entries)) }
@@ -183,7 +183,7 @@ fn lists_by(
     entries: &[MemEntry],
     members: &Map<String, Value>,
 ) -> Result<Vec<Vec<u64>>, DataFault>
-    requires entries { AllByRecursion IsHeld entries.now }
+    requires entries { AllByRecursion HasCountableNumbers entries.now }
     requires few { length entries.now < 2 ^ 32 }
     ensures { SaysLists entries.now (members_view members.now.entries) result }
 {

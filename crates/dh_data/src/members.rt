@@ -6,8 +6,8 @@ ghost use Rattle.serde_json.specs.Find.{get_member};
 ghost use Rattle.serde_json.specs.View.{view, members_view};
 ghost use Rattle.dh_value.specs.Words.{IsInteger, IsValue, word_of};
 ghost use Rattle.dh_data.specs.Reports.{is_signed as sign_of};
-ghost use Rattle.dh_data.specs.DataFiles.{IsThisIfThere, IsFormat, Agrees, IsSized as SizedBy, IsNoElement};
-ghost use Rattle.dh_data.specs.Reading.{IsHeld, SaysContents, FindsData, FindsElement, PushesBehind, bitnum, found_data, width_number};
+ghost use Rattle.dh_data.specs.DataFiles.{IsThisIfThere, IsFormat, FormatAgrees, HasDeclaredSizes as SizedBy, IsNoElement};
+ghost use Rattle.dh_data.specs.Reading.{HasCountableNumbers, SaysContents, FindsData, FindsElement, PushesBehind, bitnum, found_data, width_number};
 
 use crate::data_files::DataFault;
 use crate::reports::{elements, signed};
@@ -30,7 +30,7 @@ pub fn contents_of(
     entry: &MemEntry,
     members: &Map<String, Value>,
 ) -> Result<Vec<u64>, DataFault>
-    requires { IsHeld entry.now }
+    requires { HasCountableNumbers entry.now }
     ensures { SaysContents (members_view members.now.entries) memory entry.now result }
 {
     if !entry.outside {
@@ -67,7 +67,7 @@ fn data_of(kind: Kind, found: Option<&Value>) -> Option<&Value>
 }
 
 fn agrees(kind: Kind, format: Option<&Value>) -> bool
-    ensures { IsTrue result ↔ Agrees kind (found_data format.entry) }
+    ensures { IsTrue result ↔ FormatAgrees kind (found_data format.entry) }
 {
     match format {
         Some(format) => is_format(kind, format),

@@ -7,10 +7,10 @@ ghost use Rattle.dh_tree.specs.Shapes.{IsProgramTable};
 ghost use Rattle.dh_tree.specs.Tables.{FitsEntry, Fits, elements_of};
 ghost use Rattle.dh_value.specs.Words.{IsInteger, width_of};
 ghost use Rattle.dh_value.specs.declared.kinds.Kind.TheVariants as kind;
-ghost use Rattle.dh_data.specs.Reading.{IsHeld};
-ghost use Rattle.dh_data.specs.Reports.{PutsMemory, report_text, report_data, run_data, memories_data, memory_data, nested_data, element_data, number_of, is_signed, outcome_text as outcome_bytes, name_at, fault_name as fault_bytes};
+ghost use Rattle.dh_data.specs.Reading.{HasCountableNumbers};
+ghost use Rattle.dh_data.specs.Reports.{PutsMemory, report_text, report_data, run_data, memories_data, memory_data, nested_data, element_data, number_of_bits, is_signed, outcome_text as outcome_bytes, name_at};
 
-use dh_base::{FaultKind, NoMemory, Outcome, Place};
+use dh_base::{NoMemory, Outcome, Place};
 use dh_tree::{Dim, Kind, MemEntry, MemTable, Memories};
 use dh_value::width;
 use serde_json::{Map, Value, json};
@@ -105,7 +105,7 @@ fn memories_value(
     entries: &[MemEntry],
     lists: &[Vec<u64>],
 ) -> Result<Value, AllocError>
-    requires table { AllByRecursion IsHeld entries.now }
+    requires table { AllByRecursion HasCountableNumbers entries.now }
     requires fits { Fits entries.now (map (λ v. v.items) lists.now) }
     ensures { IfOk result
         (λ v. view v ≡ memories_data entries.now (map (λ l. l.items) lists.now)) }
@@ -124,7 +124,7 @@ fn put_memory(
     entry: &MemEntry,
     values: &[u64],
 ) -> Result<(), AllocError>
-    requires entry { IsHeld entry.now }
+    requires entry { HasCountableNumbers entry.now }
     requires fits { FitsEntry entry.now values.now }
     ensures put { OnOk result
         (PutsMemory entry.now values.now members.old.entries members.new.entries) }
@@ -207,7 +207,7 @@ fn element(kind: Kind, bits: u64) -> Value
 fn signed_number(bits: u64, width: u8) -> i64
     requires width { (1 ≤ width) × (width ≤ 64) }
     requires small { bits < 2 ^ width }
-    ensures { result ≡ number_of (kind.Signed width) bits }
+    ensures { result ≡ number_of_bits (kind.Signed width) bits }
 {
     let greatest = u64::MAX >> (64 - width);
     if bits <= greatest / 2 {
@@ -235,7 +235,7 @@ fn outcome_text(alloc: Global, entries: &[MemEntry], outcome: Outcome) -> Result
             write!(
                 text,
                 "fault {} {}:{}",
-                fault_name(kind),
+                kind.name(),
                 place.line,
                 place.column
             )?
@@ -254,14 +254,6 @@ fn outcome_text(alloc: Global, entries: &[MemEntry], outcome: Outcome) -> Result
         )?,
     }
     Ok(text)
-}
-
-fn fault_name(kind: FaultKind) -> &'static str
-    ensures { result.now ≡ fault_bytes kind }
-{
-    match kind {
-        FaultKind::OutOfRange => "OutOfRange",
-    }
 }
 
 /// The name of a memory; empty where the table has no such memory.

@@ -23,7 +23,7 @@ use Rattle.dh_cells.proofs.CellsAppended.{settled_fewer, grows_then}
 use Rattle.dh_datapath.specs.declared.blocks.PlanWires.{PlanWires}
 use Rattle.dh_datapath.specs.declared.registers.RegisterWires.{RegisterWires}
 use Rattle.dh_datapath.specs.declared.rows.RowWires.{RowWires}
-use Rattle.dh_datapath.specs.BlockWires.{start_shown, ports_look, ports_at, row_look, row_kinds, IsFormedRow, RowAdded, part_in, ShowsBlock, PlanAdded}
+use Rattle.dh_datapath.specs.BlockWires.{start_shown, ports_look, operation_ports, row_look, row_kinds, IsFormedRow, RowAdded, part_in, ShowsBlock, PlanAdded}
 use Rattle.dh_datapath.specs.RegistersShown.{ShowRegisters}
 use Rattle.dh_datapath.specs.ValueWires.{AreValueWires, value_words}
 use Rattle.dh_datapath.proofs.PartsByBlock.{before_none, before_next, part_stays, part_added, no_operations}
@@ -48,7 +48,7 @@ form_in_block s plan u held block i inside vs (Read r) =
     let first = first_in plan block in
     let place : first + i - first ≡ i = add-sub_cancel_left first i in
     ap (λ (l : List (ℕ × ℕ)). form_word s (ports_look plan.table l held first) first vs 0 (Read r))
-    (ap (λ (n : ℕ). ports_at (part_in plan u.ports block) n) place ∙ (used_at plan u.ports block i inside ∙ ap (λ (n : ℕ). slice_index_or u.ports (first + n) []) (sym place)))
+    (ap (λ (n : ℕ). operation_ports (part_in plan u.ports block) n) place ∙ (used_at plan u.ports block i inside ∙ ap (λ (n : ℕ). slice_index_or u.ports (first + n) []) (sym place)))
 form_in_block s plan u held block i inside vs (Write r value) = refl
 form_in_block s plan u held block i inside vs (Set register value) = refl
 

@@ -24,7 +24,7 @@ use Rattle.dh_cells.specs.PlainCircuits.{PlainCircuit}
 use Rattle.dh_cells.specs.Settled.{Signals, Adds, shown}
 use Rattle.dh_cells.specs.ShownValues.{number_shown}
 use Rattle.dh_cells.proofs.WiresMade.{adds_as, adds_behind, adds_none}
-use Rattle.dh_datapath.specs.BlockWires.{start_shown, ports_look, CanShow, read_bits, form_bits, operation_bits}
+use Rattle.dh_datapath.specs.BlockWires.{start_shown, ports_look, CanShow, read_bits, form_wire_bits, operation_bits}
 use Rattle.dh_datapath.specs.ReadWires.{bank_held, bank_shown, selected_bank_shown}
 use Rattle.dh_datapath.specs.RegistersShown.{AreRegisterWires}
 use Rattle.dh_datapath.specs.ValueWires.{AreValueWires, SelectIsThere, value_words, guarded_value_shown}
@@ -75,19 +75,19 @@ module _ (d e : PlainCircuit) (wire width : ℕ) (ports : List (ℕ × ℕ)) (fi
 module _ (d e : PlainCircuit) (wire : ℕ) (plan : PlainPlan) (offset : ℕ) (ports : List (ℕ × ℕ)) (first : ℕ) (ks : List Kind) (ws : List ℕ) where
   -- cells were added for a form
   abbrev pub FormAdded : OperationForm → Type 0
-  FormAdded f = Adds d e wire (width_of (form_kind plan.table plan.registers first ks f)) (form_bits plan offset ports first ks ws f)
+  FormAdded f = Adds d e wire (width_of (form_kind plan.table plan.registers first ks f)) (form_wire_bits plan offset ports first ks ws f)
 
   pub form_as : (f g : OperationForm) → f ≡ g → FormAdded g → FormAdded f
   form_as f g is added = subst (λ (h : OperationForm). FormAdded h) (sym is) added
 
   pub constant_added : (f : OperationForm) (word : Word) (w bits : ℕ) → f ≡ Constant word → w ≡ width_of word.kind → Adds d e wire w (number_shown word.bits) → FormAdded f
   constant_added f word w bits is wide added =
-      form_as f (Constant word) is (adds_as d e wire w (width_of word.kind) (number_shown word.bits) (form_bits plan offset ports first ks ws (Constant word)) wide added (λ x settled. refl))
+      form_as f (Constant word) is (adds_as d e wire w (width_of word.kind) (number_shown word.bits) (form_wire_bits plan offset ports first ks ws (Constant word)) wide added (λ x settled. refl))
 
   pub read_added : (f : OperationForm) (r : Reach) (w : ℕ) → f ≡ Read r → w ≡ width_of (kind_in plan.table r.memory) → d.table ≡ plan.table → Adds d e wire w (read_bits d.table ports first ks ws r) → FormAdded f
   read_added f r w is wide table added =
       form_as f (Read r) is
-      (adds_as d e wire w (width_of (kind_in plan.table r.memory)) (read_bits d.table ports first ks ws r) (form_bits plan offset ports first ks ws (Read r)) wide added
+      (adds_as d e wire w (width_of (kind_in plan.table r.memory)) (read_bits d.table ports first ks ws r) (form_wire_bits plan offset ports first ks ws (Read r)) wide added
       (λ x settled. ap (λ (t : List MemEntry). read_bits t ports first ks ws r x) table))
 
 -- a register's wire, which was there
@@ -97,7 +97,7 @@ pub old_added : (d : PlainCircuit) (wire : ℕ) (plan : PlainPlan) (offset : ℕ
 old_added d wire plan offset ports first ks ws f register wires is named at show =
     form_as d d wire plan offset ports first ks ws f (Old register) is
     (subst (λ (w : ℕ). FormAdded d d w plan offset ports first ks ws (Old register)) (sym at)
-    (adds_none d (slice_index wires register) (width_of (kind_at plan.registers register)) (form_bits plan offset ports first ks ws (Old register)) (show.each register named).there
+    (adds_none d (slice_index wires register) (width_of (kind_at plan.registers register)) (form_wire_bits plan offset ports first ks ws (Old register)) (show.each register named).there
     (λ x settled. (show.each register named).is x settled ∙ sym (get_or-drop offset x.registers register 0))))
 
 -- behind what was added for its form, an operation's

@@ -40,7 +40,7 @@ kind_sized (e ∷ es) (suc memory) all inside = kind_sized es memory all.1 (omeg
 
 -- the ports that an operation of a block uses, by its place there
 pub used_at : (plan : PlainPlan) (ports : List (List (ℕ × ℕ))) (block i : ℕ) → i < length (operations_in plan block)
-    → wires.ports_at (part_in plan ports block) i ≡ slice_index_or ports (first_in plan block + i) []
+    → wires.operation_ports (part_in plan ports block) i ≡ slice_index_or ports (first_in plan block + i) []
 used_at plan ports block i inside = get_or-take (length (operations_in plan block)) (drop (first_in plan block) ports) i [] inside ∙ get_or-drop (first_in plan block) ports i []
 
 have_ports : (table : List MemEntry) (memory width : ℕ) (ports banks : List (ℕ × ℕ)) → ((bank place : ℕ) → IsListed bank place banks → HasPort table memory width ports bank)
@@ -69,14 +69,14 @@ module _ (plan : PlainPlan) (u : Uses) (formed : IsFormed plan) (ports : ArePort
       }
 
   read_ports : (i : ℕ) (r : Reach) → HasUse plan block i r
-      → HavePorts plan.table r.memory (width_of (kind_in plan.table r.memory)) (wires.ports_at (part_in plan u.ports block) i) r.banks
+      → HavePorts plan.table r.memory (width_of (kind_in plan.table r.memory)) (wires.operation_ports (part_in plan u.ports block) i) r.banks
   read_ports i r h =
       subst (λ (l : List (ℕ × ℕ)). HavePorts plan.table r.memory (width_of (kind_in plan.table r.memory)) l r.banks)
       (sym (used_at plan u.ports block i (slice_get_within (operations_in plan block) i h.operation h.there)))
       (have_ports plan.table r.memory (width_of (kind_in plan.table r.memory)) (slice_index_or u.ports (first_in plan block + i) []) r.banks (used_there i r h))
 
   can_show : (i : ℕ) (o : Operation) → slice_get (operations_in plan block) i ≡ Some o → (f : OperationForm) → o.form ≡ f → FormSuits plan (first_in plan block) (kinds_of plan block) f
-      → CanShow plan (wires.ports_at (part_in plan u.ports block) i) (first_in plan block) (kinds_of plan block) f
+      → CanShow plan (wires.operation_ports (part_in plan u.ports block) i) (first_in plan block) (kinds_of plan block) f
   can_show i o at (Constant word) is h = h
   can_show i o at (Old register) is h = h
   can_show i o at (Compute op left right) is h = h

@@ -27,7 +27,7 @@ use Rattle.dh_cells.specs.PlainCircuits.{PlainCircuit}
 use Rattle.dh_cells.specs.Settled.{Signals, IsSettled, Grows, IsWire, Adds, shown}
 use Rattle.dh_cells.proofs.CellsAppended.{wire_stays, settled_fewer, grows_then, grows_none}
 use Rattle.dh_datapath.specs.declared.rows.RowWires.{RowWires}
-use Rattle.dh_datapath.specs.BlockWires.{start_shown, ports_look, operation_bits, CanShow, ports_at, row_look, row_kinds, IsFormedRow, RowAdded}
+use Rattle.dh_datapath.specs.BlockWires.{start_shown, ports_look, operation_bits, CanShow, operation_ports, row_look, row_kinds, IsFormedRow, RowAdded}
 use Rattle.dh_datapath.specs.ReadWires.{bank_held}
 use Rattle.dh_datapath.specs.ValueWires.{AreValueWires, GuardIsThere, value_words}
 use Rattle.dh_datapath.proofs.FormsMade.{guarded_kind, form_word_kind}
@@ -67,13 +67,13 @@ row_looks_back table used held first = record {
       let P = SameAt first ws vs in
       let behind = all_right P r.indices _ h in
       let last = all_right P (offsets_taken r.steps) _ behind in
-      ap (λ (bank : ℕ). if_listed r.banks (bank_held table r.memory (ports_at used (number - first)) held (bank_or_first r.banks bank)))
+      ap (λ (bank : ℕ). if_listed r.banks (bank_held table r.memory (operation_ports used (number - first)) held (bank_or_first r.banks bank)))
       (bank_same first ws vs r.banks r.select (all_left P (one_or_none r.select) _ last));
 }
 
 -- at its place an operation shows what its own ports hold
 form_at_place : (s : StepStart) (table : List MemEntry) (used : List (List (ℕ × ℕ))) (held : List ℕ) (first i : ℕ) (vs : List Word) (f : OperationForm)
-    → form_word s (row_look table used held first) first vs (first + i) f ≡ form_word s (ports_look table (ports_at used i) held first) first vs 0 f
+    → form_word s (row_look table used held first) first vs (first + i) f ≡ form_word s (ports_look table (operation_ports used i) held first) first vs 0 f
 form_at_place s table used held first i vs (Constant word) = refl
 form_at_place s table used held first i vs (Old register) = refl
 form_at_place s table used held first i vs (Compute op left right) = refl
@@ -81,7 +81,7 @@ form_at_place s table used held first i vs (Convert inner to) = refl
 form_at_place s table used held first i vs (Select test a b) = refl
 form_at_place s table used held first i vs (Check ok fault) = refl
 form_at_place s table used held first i vs (Probe r fault) = refl
-form_at_place s table used held first i vs (Read r) = ap (λ (n : ℕ). form_word s (ports_look table (ports_at used n) held first) first vs 0 (Read r)) (add-sub_cancel_left first i)
+form_at_place s table used held first i vs (Read r) = ap (λ (n : ℕ). form_word s (ports_look table (operation_ports used n) held first) first vs 0 (Read r)) (add-sub_cancel_left first i)
 form_at_place s table used held first i vs (Write r value) = refl
 form_at_place s table used held first i vs (Set register value) = refl
 
@@ -171,14 +171,14 @@ module _ (start d : PlainCircuit) (plan : PlainPlan) (offset : ℕ) (used : List
   row_earlier =
       subst (λ (n : ℕ). AllByRecursion (IsBetween first n) (form_takes o.form)) own_end (all_right (IsBetween first (first + i)) (one_or_none o.guard) (form_takes o.form) (formed.ordered.each i o at))
 
-  pub row_suits : CanShow plan (ports_at used i) first ks o.form
+  pub row_suits : CanShow plan (operation_ports used i) first ks o.form
   row_suits =
-      can_show_here plan (ports_at used i) first (row_kinds plan first os) ks o.form
+      can_show_here plan (operation_ports used i) first (row_kinds plan first os) ks o.form
       (all_right (λ (n : ℕ). kind_of_value first (row_kinds plan first os) n ≡ kind_of_value first ks n) (one_or_none o.guard) (form_takes o.form) stays_here) (formed.forms i o at)
 
   pub row_turn : (e : PlainCircuit) (wire : ℕ) (kind : Kind) (more_kinds : List Kind) (more_wires : List ℕ) → kind ≡ form_kind plan.table plan.registers first ks o.form
       → more_kinds ≡ ks ++ kind ∷ [] → more_wires ≡ ws ++ wire ∷ []
-      → Adds d e wire (width_of (form_kind plan.table plan.registers first ks o.form)) (operation_bits plan offset (ports_at used i) first ks ws o)
+      → Adds d e wire (width_of (form_kind plan.table plan.registers first ks o.form)) (operation_bits plan offset (operation_ports used i) first ks ws o)
       → RowSoFar start e plan offset used first os (i + 1) more_kinds more_wires
   row_turn e wire kind more_kinds more_wires own kinds_are wires_are added =
       subst (λ (l : List Kind). RowSoFar start e plan offset used first os (i + 1) l more_wires) (sym kinds_are)
@@ -197,11 +197,11 @@ module _ (start d : PlainCircuit) (plan : PlainPlan) (offset : ℕ) (used : List
           let s = start_shown plan offset x in
           let vs = value_words ks ws x in
           let place : length vs ≡ i = words_long ks ws x.wires same ∙ so.long in
-          let word = form_word s (ports_look plan.table (ports_at used i) x.held first) first vs 0 o.form in
+          let word = form_word s (ports_look plan.table (operation_ports used i) x.held first) first vs 0 o.form in
           let on = is_on first vs o.guard in
           let kind_is : (guarded on word).kind ≡ k
           = guarded_kind on word
-          ∙ form_word_kind d plan offset first ks ws so.there (ports_at used i) x (ports_look plan.table (ports_at used i) x.held first) 0 o.form row_earlier row_suits in
+          ∙ form_word_kind d plan offset first ks ws so.there (operation_ports used i) x (ports_look plan.table (operation_ports used i) x.held first) 0 o.form row_earlier row_suits in
           ap (λ (n : ℕ). guarded on (form_word s (row_look plan.table used x.held first) first vs (first + n) o.form)) place
           ∙ (ap (λ (w : Word). guarded on w) (form_at_place s plan.table used x.held first i vs o.form)
           ∙ (λ j. with_bits (kind_is j) (sym (added.shows.is x settled) j)))
@@ -222,14 +222,14 @@ module _ (start d : PlainCircuit) (plan : PlainPlan) (offset : ℕ) (used : List
 
 -- what the next operation needs, by the lists of the code
 pub row_needs : (start d : PlainCircuit) (plan : PlainPlan) (offset : ℕ) (used : List (List (ℕ × ℕ))) (first : ℕ) (os : List Operation) (i : ℕ) (ks own_kinds : List Kind) (ws own_wires : List ℕ) (o : Operation) (ports : List (ℕ × ℕ))
-    → IsFormedRow plan used first os → RowSoFar start d plan offset used first os i ks ws → i < length os → o ≡ get_or os i o → own_kinds ≡ ks → own_wires ≡ ws → ports ≡ ports_at used i
+    → IsFormedRow plan used first os → RowSoFar start d plan offset used first os i ks ws → i < length os → o ≡ get_or os i o → own_kinds ≡ ks → own_wires ≡ ws → ports ≡ operation_ports used i
     → GuardIsThere first own_kinds own_wires o.guard × (AllByRecursion (IsBetween first (first + length own_wires)) (form_takes o.form) × CanShow plan ports first own_kinds o.form)
 row_needs start d plan offset used first os i ks own_kinds ws own_wires o ports formed so inside is kinds_same wires_same ports_same =
     let at = operation_at os i o inside is in
     let rest = operations_left os i o inside is in
     subst (λ (l : List (ℕ × ℕ)). GuardIsThere first own_kinds own_wires o.guard × (AllByRecursion (IsBetween first (first + length own_wires)) (form_takes o.form) × CanShow plan l first own_kinds o.form)) (sym ports_same)
-    (subst (λ (l : List Kind). GuardIsThere first l own_wires o.guard × (AllByRecursion (IsBetween first (first + length own_wires)) (form_takes o.form) × CanShow plan (ports_at used i) first l o.form)) (sym kinds_same)
-    (subst (λ (l : List ℕ). GuardIsThere first ks l o.guard × (AllByRecursion (IsBetween first (first + length l)) (form_takes o.form) × CanShow plan (ports_at used i) first ks o.form)) (sym wires_same) (
+    (subst (λ (l : List Kind). GuardIsThere first l own_wires o.guard × (AllByRecursion (IsBetween first (first + length own_wires)) (form_takes o.form) × CanShow plan (operation_ports used i) first l o.form)) (sym kinds_same)
+    (subst (λ (l : List ℕ). GuardIsThere first ks l o.guard × (AllByRecursion (IsBetween first (first + length l)) (form_takes o.form) × CanShow plan (operation_ports used i) first ks o.form)) (sym wires_same) (
       row_guard start d plan offset used first os i ks ws formed so o at rest,
       (row_earlier start d plan offset used first os i ks ws formed so o at rest, row_suits start d plan offset used first os i ks ws formed so o at rest),
     )))
@@ -237,7 +237,7 @@ row_needs start d plan offset used first os i ks own_kinds ws own_wires o ports 
 -- one operation on, by the lists of the code
 pub row_goes_on : (start d e : PlainCircuit) (plan : PlainPlan) (offset : ℕ) (used : List (List (ℕ × ℕ))) (first : ℕ) (os : List Operation) (i : ℕ) (ks own_kinds : List Kind) (ws own_wires : List ℕ) (o : Operation) (ports : List (ℕ × ℕ))
     (wire : ℕ) (kind : Kind) (kinds_then more_kinds : List Kind) (more_wires : List ℕ)
-    → IsFormedRow plan used first os → RowSoFar start d plan offset used first os i ks ws → i < length os → o ≡ get_or os i o → own_kinds ≡ ks → own_wires ≡ ws → ports ≡ ports_at used i
+    → IsFormedRow plan used first os → RowSoFar start d plan offset used first os i ks ws → i < length os → o ≡ get_or os i o → own_kinds ≡ ks → own_wires ≡ ws → ports ≡ operation_ports used i
     → kinds_then ≡ ks → kind ≡ form_kind plan.table plan.registers first kinds_then o.form → more_kinds ≡ ks ++ kind ∷ [] → more_wires ≡ ws ++ wire ∷ []
     → Adds d e wire (width_of (form_kind plan.table plan.registers first own_kinds o.form)) (operation_bits plan offset ports first own_kinds own_wires o)
     → RowSoFar start e plan offset used first os (i + 1) more_kinds more_wires

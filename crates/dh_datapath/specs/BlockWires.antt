@@ -40,8 +40,8 @@ abbrev pub read_bits : List MemEntry → (ports : List (ℕ × ℕ)) → (first 
 read_bits table ports first ks ws r = λ x. ports_look table ports x.held first 0 r (value_words ks ws x)
 
 -- what the wire of a form shows, and of an operation, behind values of these kinds and wires
-abbrev pub form_bits : PlainPlan → (offset : ℕ) → (ports : List (ℕ × ℕ)) → (first : ℕ) → List Kind → (wires : List ℕ) → OperationForm → Signals → ℕ
-form_bits plan offset ports first ks ws f =
+abbrev pub form_wire_bits : PlainPlan → (offset : ℕ) → (ports : List (ℕ × ℕ)) → (first : ℕ) → List Kind → (wires : List ℕ) → OperationForm → Signals → ℕ
+form_wire_bits plan offset ports first ks ws f =
     λ x. (form_word (start_shown plan offset x) (ports_look plan.table ports x.held first) first (value_words ks ws x) 0 f).bits
 
 abbrev pub operation_bits : PlainPlan → (offset : ℕ) → (ports : List (ℕ × ℕ)) → (first : ℕ) → List Kind → (wires : List ℕ) → Operation → Signals → ℕ
@@ -65,11 +65,11 @@ CanShow plan ports first ks (Set register value) = Unit {0}
 -- Operations in a row, from the first of a block on. `used` are the ports that each uses.
 
 -- the ports that an operation uses, by its place
-abbrev pub ports_at : (used : List (List (ℕ × ℕ))) → (place : ℕ) → List (ℕ × ℕ)
-ports_at used place = slice_index_or used place []
+abbrev pub operation_ports : (used : List (List (ℕ × ℕ))) → (place : ℕ) → List (ℕ × ℕ)
+operation_ports used place = slice_index_or used place []
 
 abbrev pub row_look : List MemEntry → (used : List (List (ℕ × ℕ))) → (held : List ℕ) → (first : ℕ) → Look
-row_look table used held first number r ws = ports_look table (ports_at used (number - first)) held first number r ws
+row_look table used held first number r ws = ports_look table (operation_ports used (number - first)) held first number r ws
 
 -- the kinds of their values
 abbrev pub row_kinds : PlainPlan → (first : ℕ) → List Operation → List Kind
@@ -79,7 +79,7 @@ row_kinds plan first os = kinds_behind plan.table plan.registers first [] os
 pub record IsFormedRow (plan : PlainPlan) (used : List (List (ℕ × ℕ))) (first : ℕ) (os : List Operation) : Type 0 where
   pub ordered : IsOrdered first os
   pub guards : (i : ℕ) (o : Operation) → slice_get os i ≡ Some o → AllByRecursion (λ g. kind_of_value first (row_kinds plan first os) g ≡ kind.Bool) (one_or_none o.guard)
-  pub forms : (i : ℕ) (o : Operation) → slice_get os i ≡ Some o → CanShow plan (ports_at used i) first (row_kinds plan first os) o.form
+  pub forms : (i : ℕ) (o : Operation) → slice_get os i ≡ Some o → CanShow plan (operation_ports used i) first (row_kinds plan first os) o.form
 
 -- wires were added that show their values
 pub record RowAdded (old new : PlainCircuit) (plan : PlainPlan) (offset : ℕ) (used : List (List (ℕ × ℕ))) (first : ℕ) (os : List Operation) (row : RowWires) : Type 0 where

@@ -10,7 +10,7 @@ ghost use Rattle.dh_plan.specs.Ordered.{IsBetween, form_takes};
 ghost use Rattle.dh_plan.specs.PlanKinds.{form_kind, kind_of_value};
 ghost use Rattle.dh_plan.specs.SeenPlans.{plan_seen};
 ghost use Rattle.dh_cells.specs.Settled.{WireAdded};
-ghost use Rattle.dh_datapath.specs.BlockWires.{CanShow, form_bits, operation_bits};
+ghost use Rattle.dh_datapath.specs.BlockWires.{CanShow, form_wire_bits, operation_bits};
 ghost use Rattle.dh_datapath.specs.RegistersShown.{ShowRegisters};
 ghost use Rattle.dh_datapath.specs.ValueWires.{AreValueWires, GuardIsThere};
 
@@ -114,7 +114,7 @@ pub fn push_form(
     requires suits { CanShow (plan_seen plan.now) ports.now first kinds.now form.now }
     ensures { WireAdded result circuit.old circuit.new
         (width_of (form_kind plan.now.table plan.now.registers first kinds.now form.now))
-        (form_bits (plan_seen plan.now) registers.now.offset ports.now first kinds.now wires.now
+        (form_wire_bits (plan_seen plan.now) registers.now.offset ports.now first kinds.now wires.now
         form.now) }
 {
     match form {

@@ -7,16 +7,16 @@ use Rattle.dh_events.specs.declared.structures.Structure.{Structure}
 use Rattle.dh_events.specs.declared.structures.Sort.{Sort}
 use Rattle.dh_events.specs.declared.events.Event.{Event}
 use Rattle.dh_events.specs.declared.events.Event.TheVariants as event
-use Rattle.dh_events.specs.Structures.{Describes, DescribesForm, DescribesFrom, DescribesElement, Extends}
+use Rattle.dh_events.specs.Structures.{Describes, DescribesForm, DescribesFrom, DescribesElement, ExtendsStructures}
 use Rattle.dh_events.specs.Elements.{IsElement, IsNumberOf, IsRead, AreReads, ElementNameless, clocks_after, clocks_from}
 
-pub extends_same : (xs : List Structure) → Extends xs xs
+pub extends_same : (xs : List Structure) → ExtendsStructures xs xs
 extends_same xs n s e = e
 
-pub extends_both : (xs ys zs : List Structure) → Extends xs ys → Extends ys zs → Extends xs zs
+pub extends_both : (xs ys zs : List Structure) → ExtendsStructures xs ys → ExtendsStructures ys zs → ExtendsStructures xs zs
 extends_both xs ys zs f g n s e = g n s (f n s e)
 
-module _ (old new : List Structure) (more : Extends old new) where
+module _ (old new : List Structure) (more : ExtendsStructures old new) where
   mutual
     pub describes_still : (n : ℕ) (t : Term) → Describes old n t → Describes new n t
     describes_still n (term place k f) d = form_still n _ f d

@@ -7,7 +7,7 @@ use Rattle.dh_events.specs.declared.structures.Sort.TheVariants as sort
 use Rattle.dh_events.specs.declared.structures.Form.TheVariants as form
 use Rattle.dh_events.specs.declared.known.Known.{Known}
 use Rattle.dh_events.specs.Structures.{StructureStands, Describes, DescribesFrom, DescribesAll, IsNameless, AnyNameless, newest_in, newest_behind}
-use Rattle.dh_events.specs.Elements.{IsNumberOf, IsKnown, AreKnown, AreKnownSoFar, IsMade, MakesFrom, MakesIndex, both_known, terms_behind}
+use Rattle.dh_events.specs.Elements.{IsNumberOf, IsKnown, AreKnown, AreKnownSoFar, FormIsNumbered, MakesFrom, MakesIndex, both_known, terms_behind}
 use Rattle.dh_events.proofs.ElementFacts.{describes_still, from_still}
 
 absurd : {A : Type 0} → ⊥ → A
@@ -42,7 +42,7 @@ module _ (old new : List Structure) where
     known = λ clocks ts t e i. subst (λ (x : Terms). AreKnown new clocks (terms_behind x t) k) (sym e) (record { number = told last.structure k.structure t i.number m.made; newest = m.same ∙ (i.newest ∙ only (newest_in clocks t)) });
   }
     where
-      told : (a c : Option ℕ) (t : Term) → IsNumberOf (λ n. Describes old n) IsNameless a t → IsMade new sort.Unknown (option_map (λ n. form.Index None n) a) c → IsNumberOf (λ n. DescribesAll new n) AnyNameless c (term_then t no_terms)
+      told : (a c : Option ℕ) (t : Term) → IsNumberOf (λ n. Describes old n) IsNameless a t → FormIsNumbered new sort.Unknown (option_map (λ n. form.Index None n) a) c → IsNumberOf (λ n. DescribesAll new n) AnyNameless c (term_then t no_terms)
       told None None t i d = inl i
       told None (Some n) t i d = absurd d
       told (Some l) None t i d = absurd d
@@ -52,7 +52,7 @@ module _ (old new : List Structure) where
   next_index_made before last k m = record { extends = m.extends; known = λ clocks ts t i h. by_terms clocks ts t i h }
     where
       told : (us : Terms) (u : Term) (a b c : Option ℕ) (t : Term) → IsNumberOf (λ n. DescribesAll old n) AnyNameless a (term_then u us) → IsNumberOf (λ n. Describes old n) IsNameless b t
-          → IsMade new sort.Unknown (both_known a b (λ b n. form.Index (Some b) n)) c → IsNumberOf (λ n. DescribesAll new n) AnyNameless c (terms_behind (term_then u us) t)
+          → FormIsNumbered new sort.Unknown (both_known a b (λ b n. form.Index (Some b) n)) c → IsNumberOf (λ n. DescribesAll new n) AnyNameless c (terms_behind (term_then u us) t)
       told us u None b None t i h d = any_first (term_then u us) t i
       told us u None b (Some n) t i h d = absurd d
       told us u (Some l) None None t i h d = any_last (term_then u us) t h

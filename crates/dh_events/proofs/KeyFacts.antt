@@ -5,7 +5,7 @@ use Rattle.std.specs.List.{AllByRecursion, IsDistinct, position, position_from}
 use Rattle.std.proofs.lemmas.Bool.{eqb-true, eq-eqb}
 use Rattle.std.proofs.lemmas.Iterator.Adapters.{position_from-zero}
 use Rattle.dh_events.specs.declared.classes.Key.{Key}
-use Rattle.dh_events.specs.Classes.{Finds}
+use Rattle.dh_events.specs.Classes.{FindsKeyNumber}
 
 pub absurd : {A : Type 0} → ⊥ → A
 absurd e = elim e [ ]
@@ -94,15 +94,15 @@ module _ (eq : Key → Key → Bool) (own : (k : Key) → eq k k ≡ true) (same
       by true e f = (0, (from_none i, ap Some (sym (same k x e))))
       by false e f = found_more i x ks k (position_from (eq k) (i + 1) ks) (λ g. clash (eq k x) (ap (eq k) g ∙ own k) e) f
 
-  found : (ks : List Key) (k : Key) (r : Option ℕ) → FindsFrom 0 ks k r → Finds ks k r
+  found : (ks : List Key) (k : Key) (r : Option ℕ) → FindsFrom 0 ks k r → FindsKeyNumber ks k r
   found ks k None f = f
   found ks k (Some m) (n, (e, g)) = ap (slice_get ks) (e ∙ none n) ∙ g
     where
       none : (n : ℕ) → 0 + n ≡ n
       none n = omega arith
 
-  pub finds : (ks : List Key) (k : Key) (r : Option ℕ) → r ≡ position (eq k) ks → Finds ks k r
-  finds ks k r e = subst (λ (o : Option ℕ). Finds ks k o) (sym (e ∙ position_from-zero (eq k) ks)) (found ks k (position_from (eq k) 0 ks) (found_from 0 ks k))
+  pub finds : (ks : List Key) (k : Key) (r : Option ℕ) → r ≡ position (eq k) ks → FindsKeyNumber ks k r
+  finds ks k r e = subst (λ (o : Option ℕ). FindsKeyNumber ks k o) (sym (e ∙ position_from-zero (eq k) ks)) (found ks k (position_from (eq k) 0 ks) (found_from 0 ks k))
 
 -- and what stands in the longer list is of the list, or the one more
 only_more : {X : Type 0} (b : Bool) (xs : List X) (y : X) (n : ℕ) (x : X) → slice_get (if b then xs else xs ++ y ∷ []) n ≡ Some x → (slice_get xs n ≡ Some x) ⊎ (x ≡ y)

@@ -16,7 +16,7 @@ use Rattle.dh_events.specs.declared.structures.Form.TheVariants as form
 use Rattle.dh_events.specs.declared.known.Known.{Known}
 use Rattle.dh_events.specs.Accesses.{entity_in, element_in}
 use Rattle.dh_events.specs.Structures.{kind_sort, sort_found, StructureStands, Describes, DescribesAll, DescribesElement, IsNameless, AnyNameless, entity_newest, newest_in, element_newest}
-use Rattle.dh_events.specs.Elements.{IsNumberOf, ElementNameless, IsAccess, IsMade, MakesFrom, MakesNumber, MakesTruth, MakesVariable, MakesRead, MakesOperation, MakesCast, MakesNoIndex, MakesRow, both_known}
+use Rattle.dh_events.specs.Elements.{IsNumberOf, ElementNameless, FormIsAccess, FormIsNumbered, MakesFrom, MakesNumber, MakesTruth, MakesVariable, MakesRead, MakesOperation, MakesCast, MakesNoIndex, MakesBankRow, both_known}
 use Rattle.dh_events.proofs.ElementFacts.{describes_still, from_still}
 
 absurd : {A : Type 0} → ⊥ → A
@@ -29,14 +29,14 @@ module _ (old new : List Structure) (s : Sort) where
   pub number_made : (negative : Bool) (value : ℕ) (k : Known) → MakesFrom old new s (Some (form.Number negative value)) 0 k → MakesNumber old new s negative value k
   number_made negative value k m = record { extends = m.extends; known = λ clocks place j e. record { number = told k.structure place j e m.made; newest = m.same } }
     where
-      told : (c : Option ℕ) (place : Place) (j : Option Kind) → s ≡ sort_found j → IsMade new s (Some (form.Number negative value)) c → IsNumberOf (λ n. Describes new n) IsNameless c (term place j (number negative value))
+      told : (c : Option ℕ) (place : Place) (j : Option Kind) → s ≡ sort_found j → FormIsNumbered new s (Some (form.Number negative value)) c → IsNumberOf (λ n. Describes new n) IsNameless c (term place j (number negative value))
       told None place j e d = absurd d
       told (Some n) place j e d = at_sort new n s (sort_found j) _ e d
 
   pub truth_made : (value : Bool) (k : Known) → MakesFrom old new s (Some (form.Truth value)) 0 k → MakesTruth old new s value k
   truth_made value k m = record { extends = m.extends; known = λ clocks place j e. record { number = told k.structure place j e m.made; newest = m.same } }
     where
-      told : (c : Option ℕ) (place : Place) (j : Option Kind) → s ≡ sort_found j → IsMade new s (Some (form.Truth value)) c → IsNumberOf (λ n. Describes new n) IsNameless c (term place j (truth_value value))
+      told : (c : Option ℕ) (place : Place) (j : Option Kind) → s ≡ sort_found j → FormIsNumbered new s (Some (form.Truth value)) c → IsNumberOf (λ n. Describes new n) IsNameless c (term place j (truth_value value))
       told None place j e d = absurd d
       told (Some n) place j e d = at_sort new n s (sort_found j) _ e d
 
@@ -46,7 +46,7 @@ module _ (old new : List Structure) (s : Sort) where
     known = λ place j r e f. record { number = told entity k.structure place j r e f m.made; newest = m.same ∙ sym (ap (entity_newest clocks) f) };
   }
     where
-      told : (a c : Option ℕ) (place : Place) (j : Option Kind) (r : Ref) → s ≡ sort_found j → r.entity ≡ a → IsMade new s (option_map (λ e. form.Variable e) a) c → IsNumberOf (λ n. Describes new n) IsNameless c (term place j (named r))
+      told : (a c : Option ℕ) (place : Place) (j : Option Kind) (r : Ref) → s ≡ sort_found j → r.entity ≡ a → FormIsNumbered new s (option_map (λ e. form.Variable e) a) c → IsNumberOf (λ n. Describes new n) IsNameless c (term place j (named r))
       told None None place j r e f d = f
       told None (Some n) place j r e f d = absurd d
       told (Some x) None place j r e f d = absurd d
@@ -62,7 +62,7 @@ module _ (old new : List Structure) (s : Sort) where
   }
     where
       told : (a b c : Option ℕ) (place : Place) (j : Option Kind) (t u : Term) → s ≡ sort_found j → IsNumberOf (λ n. Describes old n) IsNameless a t → IsNumberOf (λ n. Describes old n) IsNameless b u
-          → IsMade new s (both_known a b (λ l r. form.Operation (number_of_op o) l r)) c → IsNumberOf (λ n. Describes new n) IsNameless c (term place j (applied o t u))
+          → FormIsNumbered new s (both_known a b (λ l r. form.Operation (number_of_op o) l r)) c → IsNumberOf (λ n. Describes new n) IsNameless c (term place j (applied o t u))
       told None b None place j t u e i h d = inl i
       told None b (Some n) place j t u e i h d = absurd d
       told (Some l) None None place j t u e i h d = inr h
@@ -77,7 +77,7 @@ module _ (old new : List Structure) (s : Sort) where
     known = λ clocks place j t e i. record { number = told inner.structure k.structure place j t e i.number m.made; newest = m.same ∙ i.newest };
   }
     where
-      told : (a c : Option ℕ) (place : Place) (j : Option Kind) (t : Term) → s ≡ sort_found j → IsNumberOf (λ n. Describes old n) IsNameless a t → IsMade new s (option_map (λ n. form.Cast (kind_sort to) n) a) c
+      told : (a c : Option ℕ) (place : Place) (j : Option Kind) (t : Term) → s ≡ sort_found j → IsNumberOf (λ n. Describes old n) IsNameless a t → FormIsNumbered new s (option_map (λ n. form.Cast (kind_sort to) n) a) c
           → IsNumberOf (λ n. Describes new n) IsNameless c (term place j (converted t to))
       told None None place j t e i d = i
       told None (Some n) place j t e i d = absurd d
@@ -90,7 +90,7 @@ module _ (old new : List Structure) (s : Sort) where
     known = λ clocks place j f e g a i. record { number = told f entity element.structure k.structure place j e g a i.number m.made; newest = m.same ∙ (i.newest ∙ same clocks place j f a) };
   }
     where
-      same : (clocks : ℕ → ℕ) (place : Place) (j : Option Kind) (f : TermForm) → IsAccess f → element_newest clocks (element_in f) ≡ newest_in clocks (term place j f)
+      same : (clocks : ℕ → ℕ) (place : Place) (j : Option Kind) (f : TermForm) → FormIsAccess f → element_newest clocks (element_in f) ≡ newest_in clocks (term place j f)
       same clocks place j (number negative n) a = absurd a
       same clocks place j (truth_value value) a = absurd a
       same clocks place j (named r) a = absurd a
@@ -99,8 +99,8 @@ module _ (old new : List Structure) (s : Sort) where
       same clocks place j (applied o left right) a = absurd a
       same clocks place j (converted inner to) a = absurd a
 
-      told : (f : TermForm) (x b c : Option ℕ) (place : Place) (j : Option Kind) → s ≡ sort_found j → entity_in f ≡ x → IsAccess f → IsNumberOf (λ n. DescribesElement old n) ElementNameless b (element_in f)
-          → IsMade new s (both_known x b (λ e n. form.Read e n)) c → IsNumberOf (λ n. Describes new n) IsNameless c (term place j f)
+      told : (f : TermForm) (x b c : Option ℕ) (place : Place) (j : Option Kind) → s ≡ sort_found j → entity_in f ≡ x → FormIsAccess f → IsNumberOf (λ n. DescribesElement old n) ElementNameless b (element_in f)
+          → FormIsNumbered new s (both_known x b (λ e n. form.Read e n)) c → IsNumberOf (λ n. Describes new n) IsNameless c (term place j f)
       told (number negative n) x b c place j e g a i d = absurd a
       told (truth_value value) x b c place j e g a i d = absurd a
       told (named r) x b c place j e g a i d = absurd a
@@ -124,14 +124,14 @@ module _ (old new : List Structure) where
   pub no_index_made : (k : Known) → MakesFrom old new sort.Unknown (Some form.NoIndex) 0 k → MakesNoIndex old new k
   no_index_made k m = record { extends = m.extends; known = λ clocks. record { number = told k.structure m.made; newest = m.same } }
     where
-      told : (c : Option ℕ) → IsMade new sort.Unknown (Some form.NoIndex) c → IsNumberOf (λ n. DescribesAll new n) AnyNameless c no_terms
+      told : (c : Option ℕ) → FormIsNumbered new sort.Unknown (Some form.NoIndex) c → IsNumberOf (λ n. DescribesAll new n) AnyNameless c no_terms
       told None d = absurd d
       told (Some n) d = d
 
-  pub row_made : (bank : ℕ) (row k : Known) → MakesFrom old new sort.Unknown (option_map (λ n. form.Row bank n) row.structure) row.newest k → MakesRow old new bank row k
+  pub row_made : (bank : ℕ) (row k : Known) → MakesFrom old new sort.Unknown (option_map (λ n. form.Row bank n) row.structure) row.newest k → MakesBankRow old new bank row k
   row_made bank row k m = record { extends = m.extends; known = λ clocks t i. record { number = told row.structure k.structure t i.number m.made; newest = m.same ∙ i.newest } }
     where
-      told : (a c : Option ℕ) (t : Term) → IsNumberOf (λ n. Describes old n) IsNameless a t → IsMade new sort.Unknown (option_map (λ n. form.Row bank n) a) c → IsNumberOf (λ n. DescribesElement new n) ElementNameless c (in_row bank t)
+      told : (a c : Option ℕ) (t : Term) → IsNumberOf (λ n. Describes old n) IsNameless a t → FormIsNumbered new sort.Unknown (option_map (λ n. form.Row bank n) a) c → IsNumberOf (λ n. DescribesElement new n) ElementNameless c (in_row bank t)
       told None None t i d = i
       told None (Some n) t i d = absurd d
       told (Some l) None t i d = absurd d

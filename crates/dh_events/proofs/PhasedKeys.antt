@@ -6,7 +6,7 @@ use Rattle.std.proofs.lemmas.List.{append-nil}
 use Rattle.std.proofs.lemmas.Option.{slice_get_within}
 use Rattle.indexmap.specs.IndexSet.{insert_all, insert_key}
 use Rattle.dh_events.specs.declared.classes.Key.{Key}
-use Rattle.dh_events.specs.Classes.{all_keys, is_same, KeysAreDistinct, ArePhased, Finds, IsTurnedTo, IsTurnedToAll, NumbersKey}
+use Rattle.dh_events.specs.Classes.{all_keys, is_same, KeysAreDistinct, ArePhased, FindsKeyNumber, IsTurnedTo, IsTurnedToAll, NumbersKey}
 use Rattle.dh_events.proofs.KeyFacts.{absurd, all_there, only_there, own_key, same_key, some_same, stays}
 
 -- Elements of two lists, one behind the other.
@@ -252,9 +252,9 @@ same_phased past known known1 newest e phased = subst (λ (l : List Key). ArePha
 
 -- A key is sought.
 
-pub found_known : (past known : List Key) (k : Key) (place n : ℕ) → n ≡ length past + place → Finds known k (Some place) → Finds (all_keys past known) k (Some n)
+pub found_known : (past known : List Key) (k : Key) (place n : ℕ) → n ≡ length past + place → FindsKeyNumber known k (Some place) → FindsKeyNumber (all_keys past known) k (Some n)
 found_known past known k place n e at = ap (slice_get (past ++ known)) e ∙ (at_right past known place ∙ at)
 
-pub found_past : (past known : List Key) (k : Key) (r : Option ℕ) → Finds known k None → Finds past k r → Finds (all_keys past known) k r
+pub found_past : (past known : List Key) (k : Key) (r : Option ℕ) → FindsKeyNumber known k None → FindsKeyNumber past k r → FindsKeyNumber (all_keys past known) k r
 found_past past known k None f g = λ n e. elim (either past known n k e) [ inl (m, h) ↦ g m h | inr (m, h) ↦ f m h ]
 found_past past known k (Some m) f g = at_left past known m k g

@@ -14,8 +14,8 @@ use Rattle.dh_tree.specs.declared.trees.expressions.Expr.{Expr}
 use Rattle.dh_tree.specs.Seen.{term_seen, terms}
 use Rattle.dh_events.specs.declared.events.Site.{Site}
 use Rattle.dh_events.specs.Incidents.{PortEvent, term_incidents, terms_incidents}
-use Rattle.dh_events.specs.Structures.{Describes, DescribesAll, DescribesElement, IsNameless, AnyNameless, Extends}
-use Rattle.dh_events.specs.Elements.{moment_assigned_at, clocks_after, clocks_from, IsNumberOf, ElementNameless, IsKnown, AreKnown, AreKnownSoFar, terms_behind, IsElement, IsRead, AreReads, no_clocks, StaysNoted, StaysRead, IsStep, IsTouch}
+use Rattle.dh_events.specs.Structures.{Describes, DescribesAll, DescribesElement, IsNameless, AnyNameless, ExtendsStructures}
+use Rattle.dh_events.specs.Elements.{moment_assigned_at, clocks_after, clocks_from, IsNumberOf, ElementNameless, IsKnown, AreKnown, AreKnownSoFar, terms_behind, IsElement, IsRead, AreReads, no_clocks, StaysNoted, StaysRead, IsBoundaryEvent, IsTouch}
 use Rattle.dh_events.specs.Tables.{table_at}
 use Rattle.dh_events.proofs.ElementFacts.{extends_same, extends_both, describes_still, from_still, is_element_still, reads_still, clocks_more, reads_more}
 
@@ -39,7 +39,7 @@ stays_both old mid new f g = record {
   noted = λ i. g.noted (f.noted i);
 }
 
-stays_extended : (old : Notes) (known : List Structure) → Extends old.structures known → StaysRead old (notes_of old known)
+stays_extended : (old : Notes) (known : List Structure) → ExtendsStructures old.structures known → StaysRead old (notes_of old known)
 stays_extended old known more = record {
   extends = more;
   clocks = refl;
@@ -47,14 +47,14 @@ stays_extended old known more = record {
 }
 
 -- structures are added behind reads
-pub stays_made : (old mid : Notes) (known : List Structure) → StaysRead old mid → Extends mid.structures known → StaysRead old (notes_of mid known)
+pub stays_made : (old mid : Notes) (known : List Structure) → StaysRead old mid → ExtendsStructures mid.structures known → StaysRead old (notes_of mid known)
 stays_made old mid known f more = stays_both old mid (notes_of mid known) f (stays_extended mid known more)
 
-pub stays_more : (old : Notes) (known : List Structure) → Extends old.structures known → StaysRead old (notes_of old known)
+pub stays_more : (old : Notes) (known : List Structure) → ExtendsStructures old.structures known → StaysRead old (notes_of old known)
 stays_more old known more = stays_extended old known more
 
 -- one event more
-step_clocks : (clocks : ℕ → ℕ) (place : ℕ) (e : Event) → IsStep e → clocks_after clocks place e ≡ clocks
+step_clocks : (clocks : ℕ → ℕ) (place : ℕ) (e : Event) → IsBoundaryEvent e → clocks_after clocks place e ≡ clocks
 step_clocks clocks place (event.Touch writes phase round access element newest) s = absurd s
 step_clocks clocks place (event.Assigned entity) s = absurd s
 step_clocks clocks place event.ArmBegins s = refl
@@ -63,7 +63,7 @@ step_clocks clocks place event.Begins s = refl
 step_clocks clocks place event.Next s = refl
 step_clocks clocks place event.Ends s = refl
 
-step_read : (known : List Structure) (clocks : ℕ → ℕ) (e : Event) → IsStep e → IsRead known clocks e
+step_read : (known : List Structure) (clocks : ℕ → ℕ) (e : Event) → IsBoundaryEvent e → IsRead known clocks e
 step_read known clocks (event.Touch writes phase round access element newest) s = absurd s
 step_read known clocks (event.Assigned entity) s = absurd s
 step_read known clocks event.ArmBegins s = tt
@@ -83,7 +83,7 @@ quiet old events e still read is = record {
   };
 }
 
-pub step_noted : (old : Notes) (events : Vec Event Global) (e : Event) → events.items ≡ old.events.items ++ e ∷ [] → IsStep e → StaysRead old (with_events old events)
+pub step_noted : (old : Notes) (events : Vec Event Global) (e : Event) → events.items ≡ old.events.items ++ e ∷ [] → IsBoundaryEvent e → StaysRead old (with_events old events)
 step_noted old events e is s = quiet old events e (λ clocks place. step_clocks clocks place e s) (step_read old.structures (table_at old.clocks.items) e s) is
 
 pub touch_noted : (old : Notes) (events : Vec Event Global) (e : Event) → events.items ≡ old.events.items ++ e ∷ [] → IsTouch old e → StaysRead old (with_events old events)
@@ -138,21 +138,21 @@ read_element old mid new f e s m first is known second =
 
 -- What is known stays known.
 
-pub known_still : (old new : List Structure) (f g : ℕ → ℕ) (t : Term) (k : Known) → f ≡ g → Extends old new → IsKnown old f t k → IsKnown new g t k
+pub known_still : (old new : List Structure) (f g : ℕ → ℕ) (t : Term) (k : Known) → f ≡ g → ExtendsStructures old new → IsKnown old f t k → IsKnown new g t k
 known_still old new f g t k e more i = subst (λ (c : ℕ → ℕ). IsKnown new c t k) e (record { number = by k.structure i.number; newest = i.newest })
   where
     by : (o : Option ℕ) → IsNumberOf (λ n. Describes old n) IsNameless o t → IsNumberOf (λ n. Describes new n) IsNameless o t
     by None d = d
     by (Some n) d = describes_still old new more n t d
 
-are_still : (old new : List Structure) → Extends old new → (clocks : ℕ → ℕ) (ts : Terms) (k : Known) → AreKnown old clocks ts k → AreKnown new clocks ts k
+are_still : (old new : List Structure) → ExtendsStructures old new → (clocks : ℕ → ℕ) (ts : Terms) (k : Known) → AreKnown old clocks ts k → AreKnown new clocks ts k
 are_still old new more clocks ts k i = record { number = by k.structure i.number; newest = i.newest }
   where
     by : (o : Option ℕ) → IsNumberOf (λ n. DescribesAll old n) AnyNameless o ts → IsNumberOf (λ n. DescribesAll new n) AnyNameless o ts
     by None d = d
     by (Some n) d = from_still old new more None ts n d
 
-pub so_far_still : (old new : List Structure) → Extends old new → (clocks : ℕ → ℕ) (ts : Terms) (o : Option Known) → AreKnownSoFar old clocks ts o → AreKnownSoFar new clocks ts o
+pub so_far_still : (old new : List Structure) → ExtendsStructures old new → (clocks : ℕ → ℕ) (ts : Terms) (o : Option Known) → AreKnownSoFar old clocks ts o → AreKnownSoFar new clocks ts o
 so_far_still old new more clocks ts None i = i
 so_far_still old new more clocks no_terms (Some k) i = i
 so_far_still old new more clocks (term_then t ts) (Some k) i = are_still old new more clocks (term_then t ts) k i

@@ -18,9 +18,9 @@ pub record NumbersKey (old new : List Key) (k : Key) (n : ℕ) : Type 0 where
   pub only : (m : ℕ) (x : Key) → slice_get new m ≡ Some x → (slice_get old m ≡ Some x) ⊎ (x ≡ k)
 
 -- the number of a key, where it has one
-abbrev pub Finds : List Key → Key → Option ℕ → Type 0
-Finds known k None = (n : ℕ) → slice_get known n ≡ Some k → ⊥
-Finds known k (Some n) = slice_get known n ≡ Some k
+abbrev pub FindsKeyNumber : List Key → Key → Option ℕ → Type 0
+FindsKeyNumber known k None = (n : ℕ) → slice_get known n ≡ Some k → ⊥
+FindsKeyNumber known k (Some n) = slice_get known n ≡ Some k
 
 -- whether two keys are equal
 abbrev pub is_same : Key → Key → Bool

@@ -18,8 +18,8 @@ abbrev pub all_bindings : Action → List KeptLed → List Hidden → List Bindi
 all_bindings body ways hidden = bindings 0 body ++ (map led_binding (map led_seen ways) ++ map hidden_binding (map hidden_seen hidden))
 
 -- where the variables of a body are noted, the views and the variables that keep their offsets are noted behind them
-abbrev pub AddsWays : List KeptLed → List Hidden → (old new : List (Option Scope)) → Type 0
-AddsWays ways hidden old new = (body : Action) → scope_at old ≡ scopes_in 0 body (scope_at []) → AreScopes (all_bindings body ways hidden) new
+abbrev pub AddsWayScopes : List KeptLed → List Hidden → (old new : List (Option Scope)) → Type 0
+AddsWayScopes ways hidden old new = (body : Action) → scope_at old ≡ scopes_in 0 body (scope_at []) → AreScopes (all_bindings body ways hidden) new
 
 -- it is told whether the variable declared there depends on the loop of a level
 abbrev pub TellsVariableDepends : Scope → (level : ℕ) → (told : Bool) → Type 0

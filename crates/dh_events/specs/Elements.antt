@@ -17,7 +17,7 @@ use Rattle.dh_events.specs.declared.events.Event.TheVariants as event
 use Rattle.dh_events.specs.declared.known.Known.{Known}
 use Rattle.dh_events.specs.declared.events.Notes.{Notes}
 use Rattle.dh_events.specs.Accesses.{entity_in, element_in}
-use Rattle.dh_events.specs.Structures.{sort_found, StructureStands, Describes, DescribesAll, DescribesElement, Extends, IsNameless, AnyNameless, newest_in, newest_behind, element_newest}
+use Rattle.dh_events.specs.Structures.{sort_found, StructureStands, Describes, DescribesAll, DescribesElement, ExtendsStructures, IsNameless, AnyNameless, newest_in, newest_behind, element_newest}
 use Rattle.dh_events.specs.Tables.{table_at, with_number}
 
 -- the moments of variables after an assignment
@@ -89,24 +89,24 @@ pub record IsNoted (notes : Notes) : Type 0 where
 
 -- more is noted, and stays right
 pub record StaysNoted (old new : Notes) : Type 0 where
-  pub extends : Extends old.structures new.structures
+  pub extends : ExtendsStructures old.structures new.structures
   pub noted : IsNoted old → IsNoted new
 
 -- the same, and no variable was assigned
 pub record StaysRead (old new : Notes) : Type 0 where
-  pub extends : Extends old.structures new.structures
+  pub extends : ExtendsStructures old.structures new.structures
   pub clocks : table_at new.clocks.items ≡ table_at old.clocks.items
   pub noted : IsNoted old → IsNoted new
 
 -- an event that is no access and no assignment
-abbrev pub IsStep : Event → Type 0
-IsStep (event.Touch writes phase round access element newest) = ⊥
-IsStep (event.Assigned entity) = ⊥
-IsStep event.ArmBegins = Unit {0}
-IsStep event.ArmEnds = Unit {0}
-IsStep event.Begins = Unit {0}
-IsStep event.Next = Unit {0}
-IsStep event.Ends = Unit {0}
+abbrev pub IsBoundaryEvent : Event → Type 0
+IsBoundaryEvent (event.Touch writes phase round access element newest) = ⊥
+IsBoundaryEvent (event.Assigned entity) = ⊥
+IsBoundaryEvent event.ArmBegins = Unit {0}
+IsBoundaryEvent event.ArmEnds = Unit {0}
+IsBoundaryEvent event.Begins = Unit {0}
+IsBoundaryEvent event.Next = Unit {0}
+IsBoundaryEvent event.Ends = Unit {0}
 
 -- an event that is an access, and of a read the number and the moment of its indices
 abbrev pub IsTouch : Notes → Event → Type 0
@@ -123,14 +123,14 @@ abbrev pub IsElementOf : Notes → Expr → Known → Type 0
 IsElementOf notes access k = IsElement notes.structures (table_at notes.clocks.items) (element_of (term_seen access)) k.structure k.newest
 
 -- a form is an access
-abbrev pub IsAccess : TermForm → Type 0
-IsAccess (number negative n) = ⊥
-IsAccess (truth_value value) = ⊥
-IsAccess (named r) = ⊥
-IsAccess (accessed r indices) = Unit {0}
-IsAccess (in_bank r bank bank_place row) = Unit {0}
-IsAccess (applied op left right) = ⊥
-IsAccess (converted inner to) = ⊥
+abbrev pub FormIsAccess : TermForm → Type 0
+FormIsAccess (number negative n) = ⊥
+FormIsAccess (truth_value value) = ⊥
+FormIsAccess (named r) = ⊥
+FormIsAccess (accessed r indices) = Unit {0}
+FormIsAccess (in_bank r bank bank_place row) = Unit {0}
+FormIsAccess (applied op left right) = ⊥
+FormIsAccess (converted inner to) = ⊥
 
 -- terms, and one more behind them
 abbrev pub terms_behind : Terms → Term → Terms
@@ -152,51 +152,51 @@ both_known (Some l) (Some r) form = Some (form l r)
 -- What is known of what is made of parts.
 
 -- there is a number where there is a form
-abbrev pub IsMade : List Structure → Sort → Option Form → Option ℕ → Type 0
-IsMade known s None None = Unit {0}
-IsMade known s None (Some n) = ⊥
-IsMade known s (Some f) None = ⊥
-IsMade known s (Some f) (Some n) = StructureStands known n s f
+abbrev pub FormIsNumbered : List Structure → Sort → Option Form → Option ℕ → Type 0
+FormIsNumbered known s None None = Unit {0}
+FormIsNumbered known s None (Some n) = ⊥
+FormIsNumbered known s (Some f) None = ⊥
+FormIsNumbered known s (Some f) (Some n) = StructureStands known n s f
 
 pub record MakesFrom (old new : List Structure) (s : Sort) (f : Option Form) (newest : ℕ) (k : Known) : Type 0 where
-  pub extends : Extends old new
-  pub made : IsMade new s f k.structure
+  pub extends : ExtendsStructures old new
+  pub made : FormIsNumbered new s f k.structure
   pub same : k.newest ≡ newest
 
 pub record MakesNumber (old new : List Structure) (s : Sort) (negative : Bool) (value : ℕ) (k : Known) : Type 0 where
-  pub extends : Extends old new
+  pub extends : ExtendsStructures old new
   pub known : (clocks : ℕ → ℕ) (place : Place) (j : Option Kind) → s ≡ sort_found j → IsKnown new clocks (term place j (number negative value)) k
 
 pub record MakesTruth (old new : List Structure) (s : Sort) (value : Bool) (k : Known) : Type 0 where
-  pub extends : Extends old new
+  pub extends : ExtendsStructures old new
   pub known : (clocks : ℕ → ℕ) (place : Place) (j : Option Kind) → s ≡ sort_found j → IsKnown new clocks (term place j (truth_value value)) k
 
 pub record MakesVariable (old new : List Structure) (clocks : ℕ → ℕ) (s : Sort) (entity : Option ℕ) (k : Known) : Type 0 where
-  pub extends : Extends old new
+  pub extends : ExtendsStructures old new
   pub known : (place : Place) (j : Option Kind) (r : Ref) → s ≡ sort_found j → r.entity ≡ entity → IsKnown new clocks (term place j (named r)) k
 
 pub record MakesRead (old new : List Structure) (s : Sort) (entity : Option ℕ) (element k : Known) : Type 0 where
-  pub extends : Extends old new
-  pub known : (clocks : ℕ → ℕ) (place : Place) (j : Option Kind) (f : TermForm) → s ≡ sort_found j → entity_in f ≡ entity → IsAccess f
+  pub extends : ExtendsStructures old new
+  pub known : (clocks : ℕ → ℕ) (place : Place) (j : Option Kind) (f : TermForm) → s ≡ sort_found j → entity_in f ≡ entity → FormIsAccess f
       → IsElement old clocks (element_in f) element.structure element.newest → IsKnown new clocks (term place j f) k
 
 pub record MakesOperation (old new : List Structure) (s : Sort) (o : Op) (left right k : Known) : Type 0 where
-  pub extends : Extends old new
+  pub extends : ExtendsStructures old new
   pub known : (clocks : ℕ → ℕ) (place : Place) (j : Option Kind) (t u : Term) → s ≡ sort_found j → IsKnown old clocks t left → IsKnown old clocks u right
       → IsKnown new clocks (term place j (applied o t u)) k
 
 pub record MakesCast (old new : List Structure) (s : Sort) (to : Kind) (inner k : Known) : Type 0 where
-  pub extends : Extends old new
+  pub extends : ExtendsStructures old new
   pub known : (clocks : ℕ → ℕ) (place : Place) (j : Option Kind) (t : Term) → s ≡ sort_found j → IsKnown old clocks t inner → IsKnown new clocks (term place j (converted t to)) k
 
 pub record MakesNoIndex (old new : List Structure) (k : Known) : Type 0 where
-  pub extends : Extends old new
+  pub extends : ExtendsStructures old new
   pub known : (clocks : ℕ → ℕ) → AreKnown new clocks no_terms k
 
 pub record MakesIndex (old new : List Structure) (before : Option Known) (last k : Known) : Type 0 where
-  pub extends : Extends old new
+  pub extends : ExtendsStructures old new
   pub known : (clocks : ℕ → ℕ) (ts : Terms) (t : Term) → AreKnownSoFar old clocks ts before → IsKnown old clocks t last → AreKnown new clocks (terms_behind ts t) k
 
-pub record MakesRow (old new : List Structure) (bank : ℕ) (row k : Known) : Type 0 where
-  pub extends : Extends old new
+pub record MakesBankRow (old new : List Structure) (bank : ℕ) (row k : Known) : Type 0 where
+  pub extends : ExtendsStructures old new
   pub known : (clocks : ℕ → ℕ) (t : Term) → IsKnown old clocks t row → IsElement new clocks (in_row bank t) k.structure k.newest

@@ -30,12 +30,12 @@ event_seen event.Ends = ends
 abbrev pub all_seen : List Event → List PortEvent
 all_seen events = map event_seen events
 
-abbrev pub noted : Notes → List PortEvent
-noted notes = all_seen notes.events.items
+abbrev pub noted_incidents : Notes → List PortEvent
+noted_incidents notes = all_seen notes.events.items
 
 -- what is noted is that before, and behind it these incidents
-abbrev pub Adds : (old new : Notes) → List PortEvent → Type 0
-Adds old new more = noted new ≡ noted old ++ more
+abbrev pub AddsIncidents : (old new : Notes) → List PortEvent → Type 0
+AddsIncidents old new more = noted_incidents new ≡ noted_incidents old ++ more
 
 -- whether it is a number, a truth or a name alone
 abbrev pub reads_none : TermForm → Bool
@@ -57,8 +57,8 @@ all_read_by site es = terms_incidents site (terms (map term_seen es))
 abbrev pub maybe_read_by : Site → Option Expr → List PortEvent
 maybe_read_by site e = maybe_incidents site (option_map term_seen e)
 
-abbrev pub written_by : Site → Expr → List PortEvent
-written_by site e = target_incidents site (term_seen e)
+abbrev pub target_written_by : Site → Expr → List PortEvent
+target_written_by site e = target_incidents site (term_seen e)
 
 -- what commands without commands inside do
 abbrev pub let_by : Site → Ref → Option Expr → List PortEvent
@@ -68,7 +68,7 @@ abbrev pub assigned_by : Site → Ref → Expr → List PortEvent
 assigned_by site target value = read_by site value ++ assigned target.entity ∷ []
 
 abbrev pub stored_by : Site → (target value : Expr) → List PortEvent
-stored_by site target value = read_by site value ++ written_by site target
+stored_by site target value = read_by site value ++ target_written_by site target
 
 -- which phases are open after a command that stands here
 abbrev pub left_open : Site → Open
@@ -89,8 +89,8 @@ view_opened_by behind phase form = if moves (view_plan form) then open_at (Some 
 abbrev pub stages_known : Around → ℕ → ℕ
 stages_known around = table_at around.stages.now
 
-abbrev pub done_by : Around → Open → Command → List PortEvent
-done_by around behind c = incidents (stages_known around) around.round behind (action_seen c)
+abbrev pub command_done_by : Around → Open → Command → List PortEvent
+command_done_by around behind c = incidents (stages_known around) around.round behind (action_seen c)
 
 abbrev pub opened_by : Around → Open → Command → Open
 opened_by around behind c = open_after (stages_known around) behind (action_seen c)

@@ -66,8 +66,8 @@ DescribesElement known n (with_indices indices) = DescribesAll known n indices
 DescribesElement known n (in_row bank row) = (l : ℕ) × (Describes known l row × StructureStands known n sort.Unknown (form.Row bank l))
 
 -- structures are only added
-abbrev pub Extends : (old new : List Structure) → Type 0
-Extends old new = (n : ℕ) (s : Structure) → slice_get old n ≡ Some s → slice_get new n ≡ Some s
+abbrev pub ExtendsStructures : (old new : List Structure) → Type 0
+ExtendsStructures old new = (n : ℕ) (s : Structure) → slice_get old n ≡ Some s → slice_get new n ≡ Some s
 
 -- no structure has two numbers
 abbrev pub StructuresAreDistinct : List Structure → Type 0
@@ -75,7 +75,7 @@ StructuresAreDistinct known = (m n : ℕ) (s : Structure) → slice_get known m 
 
 -- the number of a structure is found or made
 pub record Numbers (old new : List Structure) (s : Structure) (n : ℕ) : Type 0 where
-  pub extends : Extends old new
+  pub extends : ExtendsStructures old new
   pub stands : slice_get new n ≡ Some s
 
 abbrev pub entity_newest : (clocks : ℕ → ℕ) → Option ℕ → ℕ

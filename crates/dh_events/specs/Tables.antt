@@ -10,5 +10,5 @@ abbrev pub with_number : (ℕ → ℕ) → (place number : ℕ) → ℕ → ℕ
 with_number f place number n = if place == n then number else f n
 
 -- the numbers are those that this change makes of the ones before
-abbrev pub AreNumbers : (old new : Vec ℕ Global) → ((ℕ → ℕ) → ℕ → ℕ) → Type 0
-AreNumbers old new change = table_at new.items ≡ change (table_at old.items)
+abbrev pub ChangesNumbers : (old new : Vec ℕ Global) → ((ℕ → ℕ) → ℕ → ℕ) → Type 0
+ChangesNumbers old new change = table_at new.items ≡ change (table_at old.items)

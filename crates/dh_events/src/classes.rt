@@ -5,7 +5,7 @@
 
 ghost use Rattle.std.specs.Prelude.{◌≡◌, ◌<◌, [], IfOk, OnOk, length};
 ghost use Rattle.indexmap.specs.IndexSet.{insert_all};
-ghost use Rattle.dh_events.specs.Classes.{KeysAreDistinct, ArePhased, Finds, IsTurnedTo, IsTurnedToAll, KeepsAllKeys, NumbersKey, all_keys, is_same};
+ghost use Rattle.dh_events.specs.Classes.{KeysAreDistinct, ArePhased, FindsKeyNumber, IsTurnedTo, IsTurnedToAll, KeepsAllKeys, NumbersKey, all_keys, is_same};
 ghost use Rattle.dh_events.specs.Digests as digests;
 
 use crate::digests::joined;
@@ -167,7 +167,7 @@ fn number_in(parts: &mut Phased, key: Key) -> Result<usize, NoMemory>
 
 /// The place of a key among past ones, where it is there.
 fn find_past(past: &[Key], key: Key) -> Option<usize>
-    ensures { Finds past.now key result }
+    ensures { FindsKeyNumber past.now key result }
 {
     for place in 0..past.len() {
         if past[place] == key {
@@ -223,7 +223,7 @@ impl Classes {
 
     /// The number of a key, where it has one.
     pub fn find(&self, key: Key) -> Option<usize>
-        ensures { Finds self.now key result }
+        ensures { FindsKeyNumber self.now key result }
     {
         // fewer than half of what a word counts
         let _ = self.parts.known.len();

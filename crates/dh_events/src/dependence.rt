@@ -2,7 +2,7 @@
 
 ghost use Rattle.std.specs.Prelude.{◌≡◌, ◌<◌, ◌≤◌, Some, IfOk, OnOk, length, map, min};
 ghost use Rattle.dh_tree.specs.Seen.{action_seen, part_seen, groups, maybe_block_seen};
-ghost use Rattle.dh_events.specs.Depending.{all_bindings, AddsWays, TellsAccessDepends, TellsAnyDepends, TellsEntityDepends, TellsValueDepends, TellsVariableDepends};
+ghost use Rattle.dh_events.specs.Depending.{all_bindings, AddsWayScopes, TellsAccessDepends, TellsAnyDepends, TellsEntityDepends, TellsValueDepends, TellsVariableDepends};
 ghost use Rattle.dh_events.specs.Scopes.{groups_scopes, hidden_scopes, led_scopes, most_depth, other_scopes, scope, scope_at, scopes_in, told_inside, with_scope, AreScopes, MakeScopes};
 
 use dh_base::NoMemory;
@@ -229,7 +229,7 @@ pub fn note_ways(
     ways: &WayTable,
     hidden: &[Hidden],
 ) -> Result<(), NoMemory>
-    ensures { OnOk result (AddsWays ways.now hidden.now scopes.old.items scopes.new.items) }
+    ensures { OnOk result (AddsWayScopes ways.now hidden.now scopes.old.items scopes.new.items) }
 {
     note_led(scopes, ways)?;
     note_hidden(scopes, hidden)?;

@@ -10,7 +10,7 @@ const MULTIPLIER: usize = 2_654_435_761;
 
 /// One number for two, which other pairs mostly do not have.
 pub fn joined(first: usize, second: usize) -> usize
-    ensures { result ≡ digests.joined first second }
+    ensures { result ≡ digests.joined_digest first second }
 {
     first.wrapping_mul(MULTIPLIER).wrapping_add(second)
 }

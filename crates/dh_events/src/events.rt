@@ -2,9 +2,9 @@
 
 ghost use Rattle.std.specs.Prelude.{◌≡◌, true, false, [], ◌∷◌, IfOk, OnOk};
 ghost use Rattle.dh_tree.specs.Seen.{term_seen};
-ghost use Rattle.dh_events.specs.Elements.{IsElementOf, IsNoted, IsStep, IsTouch, StaysNoted, StaysRead};
+ghost use Rattle.dh_events.specs.Elements.{IsElementOf, IsNoted, IsBoundaryEvent, IsTouch, StaysNoted, StaysRead};
 ghost use Rattle.dh_events.specs.Incidents.{assigned, touches};
-ghost use Rattle.dh_events.specs.Noted.{event_seen, Adds};
+ghost use Rattle.dh_events.specs.Noted.{event_seen, AddsIncidents};
 
 use crate::known::Known;
 use crate::structures::Structures;
@@ -89,8 +89,8 @@ impl<'a> Notes<'a> {
 
     /// Notes one more event.
     pub fn note(&mut self, event: Event<'a>) -> Result<(), NoMemory>
-        ensures adds { OnOk result (Adds self.old self.new (event_seen event.entry ∷ [])) }
-        ensures noted { OnOk result (IsStep event.entry → StaysRead self.old self.new) }
+        ensures adds { OnOk result (AddsIncidents self.old self.new (event_seen event.entry ∷ [])) }
+        ensures noted { OnOk result (IsBoundaryEvent event.entry → StaysRead self.old self.new) }
         ensures touched { OnOk result (IsTouch self.old event.entry → StaysRead self.old self.new) }
     {
         Ok(self.events.push(event)?)
@@ -98,7 +98,7 @@ impl<'a> Notes<'a> {
 
     /// Notes an assignment.
     pub fn assign(&mut self, entity: Option<u32>) -> Result<(), NoMemory>
-        ensures adds { OnOk result (Adds self.old self.new (assigned entity ∷ [])) }
+        ensures adds { OnOk result (AddsIncidents self.old self.new (assigned entity ∷ [])) }
         ensures noted { OnOk result (StaysNoted self.old self.new) }
     {
         self.events.push(Event::Assigned { entity })?;
@@ -110,7 +110,7 @@ impl<'a> Notes<'a> {
 
     /// Notes a read of an element of which this is known.
     pub fn read(&mut self, site: Site, access: &'a Expr, element: Known) -> Result<(), NoMemory>
-        ensures adds { OnOk result (Adds self.old self.new
+        ensures adds { OnOk result (AddsIncidents self.old self.new
             (touches (term_seen access.now) false site ∷ [])) }
         ensures noted { OnOk result (IsElementOf self.old access.now element
             → StaysRead self.old self.new) }
@@ -127,7 +127,7 @@ impl<'a> Notes<'a> {
 
     /// Notes a write.
     pub fn write(&mut self, site: Site, access: &'a Expr) -> Result<(), NoMemory>
-        ensures adds { OnOk result (Adds self.old self.new
+        ensures adds { OnOk result (AddsIncidents self.old self.new
             (touches (term_seen access.now) true site ∷ [])) }
         ensures noted { OnOk result (StaysRead self.old self.new) }
     {

@@ -5,7 +5,7 @@ ghost use Rattle.std.specs.Prelude.{◌≡◌, Some, None, option_map, IfOk};
 ghost use Rattle.dh_meets.specs.Sharing.{number_of_op};
 ghost use Rattle.dh_events.specs.declared.structures.Form.TheVariants as form;
 ghost use Rattle.dh_events.specs.Structures as definitions;
-ghost use Rattle.dh_events.specs.Elements.{both_known, MakesCast, MakesIndex, MakesNoIndex, MakesNumber, MakesOperation, MakesRead, MakesRow, MakesTruth, MakesVariable, MakesFrom};
+ghost use Rattle.dh_events.specs.Elements.{both_known, MakesCast, MakesIndex, MakesNoIndex, MakesNumber, MakesOperation, MakesRead, MakesBankRow, MakesTruth, MakesVariable, MakesFrom};
 ghost use Rattle.dh_events.specs.Tables.{table_at};
 
 use crate::structures::{Form, Sort, Structure, Structures, op_number, sort_of};
@@ -229,7 +229,7 @@ fn row_form(bank: u64, row: Known) -> Option<Form>
 
 /// What is known of a row of a bank.
 pub fn row(structures: &mut Structures, bank: u64, row: Known) -> Result<Known, NoMemory>
-    ensures { IfOk result (λ k. MakesRow structures.old structures.new bank row k) }
+    ensures { IfOk result (λ k. MakesBankRow structures.old structures.new bank row k) }
 {
     made(structures, Sort::Unknown, row_form(bank, row), row.newest)
 }

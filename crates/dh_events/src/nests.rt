@@ -7,14 +7,14 @@ ghost use Rattle.dh_events.specs.Rounds.{form_rounds, groups_rounds, header_loop
 ghost use Rattle.dh_events.specs.Scopes.{form_scopes, groups_scopes, other_scopes, scopes_in, MakeScopes};
 ghost use Rattle.dh_events.specs.Stages.{form_stages, groups_stages, other_stages, stages_in};
 ghost use Rattle.dh_tree.specs.PhaseKinds.{phase_kind, form_phase_kind, other_phase_kind, groups_phase_kind};
-ghost use Rattle.dh_events.specs.Tables.{AreNumbers};
+ghost use Rattle.dh_events.specs.Tables.{ChangesNumbers};
 
 use crate::dependence::{Scope, declare, declare_iterator};
 use crate::rounds::{inside, set_round};
-use crate::stages::{choice_stages, loop_stages, stages_behind, view_stages};
+use crate::stages::view_stages;
 use crate::tables::set_at;
 use dh_base::NoMemory;
-use dh_meaning::turn_count;
+use dh_meaning::{kind_behind, kind_of_choice, kind_of_turns, turn_count};
 use dh_tree::{Command, CommandForm, Counter, LoopHeader};
 use std::alloc::Global;
 
@@ -103,7 +103,7 @@ pub fn note_nests(
     depth: usize,
     command: &Command,
 ) -> Result<usize, NoMemory>
-    ensures noted { OnOk result (AreNumbers nests.old.stages nests.new.stages
+    ensures noted { OnOk result (ChangesNumbers nests.old.stages nests.new.stages
         (stages_in (action_seen command.now))) }
     ensures own { IfOk result (λ own. own ≡ phase_kind (action_seen command.now)) }
     ensures rounds { OnOk result (AreRounds nests.old.rounds nests.new.rounds
@@ -137,7 +137,7 @@ fn note_inside(
     depth: usize,
     command: &Command,
 ) -> Result<usize, NoMemory>
-    ensures noted { OnOk result (AreNumbers nests.old.stages nests.new.stages
+    ensures noted { OnOk result (ChangesNumbers nests.old.stages nests.new.stages
         (stages_in (action_seen command.now))) }
     ensures own { IfOk result (λ own. own ≡ phase_kind (action_seen command.now)) }
     ensures rounds { OnOk result (AreRounds nests.old.rounds nests.new.rounds
@@ -161,7 +161,7 @@ fn note_form(
     id: u32,
     form: &CommandForm,
 ) -> Result<usize, NoMemory>
-    ensures noted { OnOk result (AreNumbers nests.old.stages nests.new.stages
+    ensures noted { OnOk result (ChangesNumbers nests.old.stages nests.new.stages
         (form_stages (action_form_seen form.now))) }
     ensures own { IfOk result (λ own. own ≡ form_phase_kind (action_form_seen form.now)) }
     ensures rounds { OnOk result (AreRounds nests.old.rounds nests.new.rounds
@@ -182,7 +182,7 @@ fn note_form(
         CommandForm::If { then, other, .. } => {
             let chosen = note_nests(alloc, nests, outer, depth, then)?;
             let others = note_other(alloc, nests, outer, depth, other)?;
-            Ok(choice_stages(chosen, others))
+            Ok(kind_of_choice(chosen, others))
         }
         CommandForm::While { body, .. } => {
             note_nests(alloc, nests, outer, depth, body)?;
@@ -202,7 +202,7 @@ fn note_form(
             let joins = note_other(alloc, nests, within, deep, combine)?;
             set_own(alloc, &mut nests.rounds, id, factor, own)?;
             let turns = turn_count(header.low, header.high, factor);
-            Ok(loop_stages(turns, turn, joins))
+            Ok(kind_of_turns(turns, turn, joins))
         }
         CommandForm::View { form, .. } => Ok(view_stages(form)),
         CommandForm::LetMemory { .. } | CommandForm::Call { .. } => Ok(0),
@@ -218,7 +218,7 @@ fn note_other(
     depth: usize,
     other: &Option<Box<Command>>,
 ) -> Result<usize, NoMemory>
-    ensures noted { OnOk result (AreNumbers nests.old.stages nests.new.stages
+    ensures noted { OnOk result (ChangesNumbers nests.old.stages nests.new.stages
         (other_stages (maybe_block_seen other.now))) }
     ensures own { IfOk result (λ own. own ≡ other_phase_kind (maybe_block_seen other.now)) }
     ensures rounds { OnOk result (AreRounds nests.old.rounds nests.new.rounds
@@ -241,7 +241,7 @@ fn note_parts(
     depth: usize,
     parts: &[Vec<Command>],
 ) -> Result<usize, NoMemory>
-    ensures noted { OnOk result (AreNumbers nests.old.stages nests.new.stages
+    ensures noted { OnOk result (ChangesNumbers nests.old.stages nests.new.stages
         (groups_stages (groups (map part_seen parts.now)))) }
     ensures own { IfOk result (λ own. own ≡ groups_phase_kind (groups (map part_seen parts.now))) }
     ensures rounds { OnOk result (AreRounds nests.old.rounds nests.new.rounds
@@ -255,7 +255,7 @@ fn note_parts(
         for command in part.as_slice() {
             most = note_nests(alloc, nests, outer, depth, command)?.max(most);
         }
-        all = stages_behind(all, most);
+        all = kind_behind(all, most);
     }
     Ok(all)
 }

@@ -2,10 +2,10 @@
 
 ghost use Rattle.std.specs.Prelude.{◌≡◌, map, option_map, IfOk, OnOk};
 ghost use Rattle.dh_tree.specs.Seen.{action_seen, form_seen, groups, maybe_seen, part_seen, term_seen, terms};
-ghost use Rattle.dh_events.specs.Elements.{AreKnown, IsKnown, IsStep, StaysNoted, StaysRead};
+ghost use Rattle.dh_events.specs.Elements.{AreKnown, IsKnown, IsBoundaryEvent, StaysNoted, StaysRead};
 ghost use Rattle.dh_events.specs.Incidents as incidents;
 ghost use Rattle.dh_events.specs.Incidents.{is_stepped, phase_of as phase_of_open, released, when_parted};
-ghost use Rattle.dh_events.specs.Noted.{all_read_by, arms_begun_by, arms_ended_by, arms_opened_by, assigned_by, block_done_by, block_opened_by, body_done_by, combine_opened_by, done_by, event_seen, given_done_by, left_open, let_by, maybe_read_by, offsets_read_by, opened_by, other_begun_by, parts_done_by, parts_opened_by, read_by, reads_none, stages_known, stored_by, suffixes_read_by, turns_begun_by, turns_ended_by, view_opened_by, written_by, Adds};
+ghost use Rattle.dh_events.specs.Noted.{all_read_by, arms_begun_by, arms_ended_by, arms_opened_by, assigned_by, block_done_by, block_opened_by, body_done_by, combine_opened_by, command_done_by, event_seen, given_done_by, left_open, let_by, maybe_read_by, offsets_read_by, opened_by, other_begun_by, parts_done_by, parts_opened_by, read_by, reads_none, stages_known, stored_by, suffixes_read_by, turns_begun_by, turns_ended_by, view_opened_by, target_written_by, AddsIncidents};
 ghost use Rattle.dh_events.specs.Tables.{table_at};
 
 use crate::events::{Event, Notes, Site};
@@ -22,7 +22,7 @@ use dh_viewing::moves;
 #[cycle(reading)]
 #[tactic(auto, using(dh_tree::proofs::SeenTerms::terms_are, dh_tree::proofs::Collecting::found_none, dh_tree::proofs::Collecting::found_both))]
 fn note_index<'a>(notes: &mut Notes<'a>, site: Site, expr: &'a Expr) -> Result<Known, NoMemory>
-    ensures adds { OnOk result (Adds notes.old notes.new (read_by site expr.now)) }
+    ensures adds { OnOk result (AddsIncidents notes.old notes.new (read_by site expr.now)) }
     ensures noted { OnOk result (StaysRead notes.old notes.new) }
     ensures known { IfOk result (λ k. IsKnown notes.new.structures
         (table_at notes.old.clocks.items) (term_seen expr.now) k) }
@@ -69,7 +69,7 @@ fn note_indices<'a>(
     site: Site,
     indices: &'a [Expr],
 ) -> Result<Known, NoMemory>
-    ensures adds { OnOk result (Adds notes.old notes.new (all_read_by site indices.now)) }
+    ensures adds { OnOk result (AddsIncidents notes.old notes.new (all_read_by site indices.now)) }
     ensures noted { OnOk result (StaysRead notes.old notes.new) }
     ensures known { IfOk result (λ k. AreKnown notes.new.structures
         (table_at notes.old.clocks.items) (terms (map term_seen indices.now)) k) }
@@ -89,7 +89,7 @@ fn note_indices<'a>(
 #[cycle(outer)]
 #[tactic(auto, using(dh_tree::proofs::SeenTerms::terms_are, dh_tree::proofs::Collecting::found_none, dh_tree::proofs::Collecting::found_both))]
 fn note_reads<'a>(notes: &mut Notes<'a>, site: Site, expr: &'a Expr) -> Result<(), NoMemory>
-    ensures adds { OnOk result (Adds notes.old notes.new (read_by site expr.now)) }
+    ensures adds { OnOk result (AddsIncidents notes.old notes.new (read_by site expr.now)) }
     ensures noted { OnOk result (StaysRead notes.old notes.new) }
 {
     match &expr.form {
@@ -128,7 +128,7 @@ fn reads_nothing(form: &ExprForm) -> bool
 /// As `note_reads`, for what mostly reads nothing.
 #[cycle(outer)]
 fn note_value<'a>(notes: &mut Notes<'a>, site: Site, expr: &'a Expr) -> Result<(), NoMemory>
-    ensures adds { OnOk result (Adds notes.old notes.new (read_by site expr.now)) }
+    ensures adds { OnOk result (AddsIncidents notes.old notes.new (read_by site expr.now)) }
     ensures noted { OnOk result (StaysRead notes.old notes.new) }
 {
     if reads_nothing(&expr.form) {
@@ -144,7 +144,7 @@ fn note_all_reads<'a>(
     site: Site,
     indices: &'a [Expr],
 ) -> Result<(), NoMemory>
-    ensures adds { OnOk result (Adds notes.old notes.new (all_read_by site indices.now)) }
+    ensures adds { OnOk result (AddsIncidents notes.old notes.new (all_read_by site indices.now)) }
     ensures noted { OnOk result (StaysRead notes.old notes.new) }
 {
     for index in indices {
@@ -156,7 +156,7 @@ fn note_all_reads<'a>(
 /// Notes what a store's target reads, and the write. What is no access is read alone.
 #[tactic(auto, using(dh_tree::proofs::SeenTerms::terms_are, dh_tree::proofs::Collecting::found_none, dh_tree::proofs::Collecting::found_both))]
 fn note_write<'a>(notes: &mut Notes<'a>, site: Site, target: &'a Expr) -> Result<(), NoMemory>
-    ensures adds { OnOk result (Adds notes.old notes.new (written_by site target.now)) }
+    ensures adds { OnOk result (AddsIncidents notes.old notes.new (target_written_by site target.now)) }
     ensures noted { OnOk result (StaysRead notes.old notes.new) }
 {
     match &target.form {
@@ -182,7 +182,7 @@ fn note_maybe<'a>(
     site: Site,
     value: &'a Option<Expr>,
 ) -> Result<(), NoMemory>
-    ensures adds { OnOk result (Adds notes.old notes.new (maybe_read_by site value.now)) }
+    ensures adds { OnOk result (AddsIncidents notes.old notes.new (maybe_read_by site value.now)) }
     ensures noted { OnOk result (StaysRead notes.old notes.new) }
 {
     match value {
@@ -197,7 +197,7 @@ fn note_suffixes<'a>(
     site: Site,
     by: &'a [(u64, Expr)],
 ) -> Result<(), NoMemory>
-    ensures adds { OnOk result (Adds notes.old notes.new (suffixes_read_by site by.now)) }
+    ensures adds { OnOk result (AddsIncidents notes.old notes.new (suffixes_read_by site by.now)) }
     ensures noted { OnOk result (StaysRead notes.old notes.new) }
 {
     for pair in by {
@@ -208,7 +208,7 @@ fn note_suffixes<'a>(
 
 /// Notes what the offsets of a view read.
 fn note_offsets<'a>(notes: &mut Notes<'a>, site: Site, form: &'a ViewForm) -> Result<(), NoMemory>
-    ensures adds { OnOk result (Adds notes.old notes.new (offsets_read_by site form.now)) }
+    ensures adds { OnOk result (AddsIncidents notes.old notes.new (offsets_read_by site form.now)) }
     ensures noted { OnOk result (StaysRead notes.old notes.new) }
 {
     match form {
@@ -335,8 +335,8 @@ fn are_parts(parts: &[Vec<Command>]) -> bool
 
 /// Notes an event where there are the parts or the arm that it tells of.
 fn note_parted<'a>(notes: &mut Notes<'a>, parted: bool, event: Event<'a>) -> Result<(), NoMemory>
-    requires step { IsStep event }
-    ensures adds { OnOk result (Adds notes.old notes.new
+    requires step { IsBoundaryEvent event }
+    ensures adds { OnOk result (AddsIncidents notes.old notes.new
         (when_parted parted (event_seen event.entry))) }
     ensures noted { OnOk result (StaysRead notes.old notes.new) }
 {
@@ -351,7 +351,7 @@ fn note_let<'a>(
     name: &Ref,
     value: &'a Option<Expr>,
 ) -> Result<Open, NoMemory>
-    ensures adds { OnOk result (Adds notes.old notes.new (let_by site name.now value.now)) }
+    ensures adds { OnOk result (AddsIncidents notes.old notes.new (let_by site name.now value.now)) }
     ensures after { IfOk result (λ after. after ≡ left_open site) }
     ensures noted { OnOk result (StaysNoted notes.old notes.new) }
 {
@@ -368,7 +368,7 @@ fn note_assign<'a>(
     target: &Ref,
     value: &'a Expr,
 ) -> Result<Open, NoMemory>
-    ensures adds { OnOk result (Adds notes.old notes.new (assigned_by site target.now value.now)) }
+    ensures adds { OnOk result (AddsIncidents notes.old notes.new (assigned_by site target.now value.now)) }
     ensures after { IfOk result (λ after. after ≡ left_open site) }
     ensures noted { OnOk result (StaysNoted notes.old notes.new) }
 {
@@ -385,7 +385,7 @@ fn note_store<'a>(
     target: &'a Expr,
     value: &'a Expr,
 ) -> Result<Open, NoMemory>
-    ensures adds { OnOk result (Adds notes.old notes.new (stored_by site target.now value.now)) }
+    ensures adds { OnOk result (AddsIncidents notes.old notes.new (stored_by site target.now value.now)) }
     ensures after { IfOk result (λ after. after ≡ left_open site) }
     ensures noted { OnOk result (StaysRead notes.old notes.new) }
 {
@@ -401,7 +401,7 @@ fn note_view<'a>(
     behind: Open,
     form: &'a ViewForm,
 ) -> Result<Open, NoMemory>
-    ensures adds { OnOk result (Adds notes.old notes.new (offsets_read_by site form.now)) }
+    ensures adds { OnOk result (AddsIncidents notes.old notes.new (offsets_read_by site form.now)) }
     ensures after { IfOk result (λ after. after ≡ view_opened_by behind site.phase form.now) }
     ensures noted { OnOk result (StaysRead notes.old notes.new) }
 {
@@ -419,7 +419,7 @@ fn begin_arms<'a>(
     test: &'a Expr,
     other: &Option<Box<Command>>,
 ) -> Result<Open, NoMemory>
-    ensures adds { OnOk result (Adds notes.old notes.new
+    ensures adds { OnOk result (AddsIncidents notes.old notes.new
         (arms_begun_by around.entry behind id test.now other.now)) }
     ensures inside { IfOk result (λ inside. inside ≡ arms_opened_by around.entry behind id) }
     ensures noted { OnOk result (StaysRead notes.old notes.new) }
@@ -440,7 +440,7 @@ fn begin_other<'a>(
     round: Option<u32>,
     other: &Option<Box<Command>>,
 ) -> Result<(), NoMemory>
-    ensures adds { OnOk result (Adds notes.old notes.new (other_begun_by round other.now)) }
+    ensures adds { OnOk result (AddsIncidents notes.old notes.new (other_begun_by round other.now)) }
     ensures noted { OnOk result (StaysRead notes.old notes.new) }
 {
     notes.note(Event::ArmEnds)?;
@@ -456,7 +456,7 @@ fn end_arms<'a>(
     inside: Open,
     other: &Option<Box<Command>>,
 ) -> Result<Open, NoMemory>
-    ensures adds { OnOk result (Adds notes.old notes.new (arms_ended_by round other.now)) }
+    ensures adds { OnOk result (AddsIncidents notes.old notes.new (arms_ended_by round other.now)) }
     ensures after { IfOk result (λ after. after ≡ inside) }
     ensures noted { OnOk result (StaysRead notes.old notes.new) }
 {
@@ -469,7 +469,7 @@ fn end_arms<'a>(
 /// part begins.
 #[tactic(auto, using(dh_tree::proofs::Collecting::found_both))]
 fn begin_turns<'a>(notes: &mut Notes<'a>, site: Site, test: &'a Expr) -> Result<(), NoMemory>
-    ensures adds { OnOk result (Adds notes.old notes.new (turns_begun_by site test.now)) }
+    ensures adds { OnOk result (AddsIncidents notes.old notes.new (turns_begun_by site test.now)) }
     ensures noted { OnOk result (StaysRead notes.old notes.new) }
 {
     notes.note(Event::Begins)?;
@@ -479,7 +479,7 @@ fn begin_turns<'a>(notes: &mut Notes<'a>, site: Site, test: &'a Expr) -> Result<
 
 /// Notes that the parts of a `while` end. Answers that nothing is open behind them.
 fn end_turns(notes: &mut Notes<'_>) -> Result<Open, NoMemory>
-    ensures adds { OnOk result (Adds notes.old notes.new turns_ended_by) }
+    ensures adds { OnOk result (AddsIncidents notes.old notes.new turns_ended_by) }
     ensures after { IfOk result (λ after. after ≡ incidents.closed) }
     ensures noted { OnOk result (StaysRead notes.old notes.new) }
 {
@@ -521,7 +521,7 @@ fn note_command<'a>(
     command: &'a Command,
 ) -> Result<Open, NoMemory>
     ensures adds { OnOk result
-        (Adds notes.old notes.new (done_by around.entry behind command.now)) }
+        (AddsIncidents notes.old notes.new (command_done_by around.entry behind command.now)) }
     ensures after { IfOk result (λ after. after ≡ opened_by around.entry behind command.now) }
     ensures noted { OnOk result (StaysNoted notes.old notes.new) }
 {
@@ -583,7 +583,7 @@ fn note_given<'a>(
     command: &'a Option<Box<Command>>,
 ) -> Result<Open, NoMemory>
     ensures adds { OnOk result
-        (Adds notes.old notes.new (given_done_by around.entry behind command.now)) }
+        (AddsIncidents notes.old notes.new (given_done_by around.entry behind command.now)) }
     ensures noted { OnOk result (StaysNoted notes.old notes.new) }
 {
     match command {
@@ -603,7 +603,7 @@ fn note_block<'a>(
     body: &'a [Vec<Command>],
 ) -> Result<Open, NoMemory>
     ensures adds { OnOk result
-        (Adds notes.old notes.new (block_done_by around.entry behind id body.now)) }
+        (AddsIncidents notes.old notes.new (block_done_by around.entry behind id body.now)) }
     ensures after { IfOk result (λ after. after
         ≡ block_opened_by around.entry behind id body.now) }
     ensures noted { OnOk result (StaysNoted notes.old notes.new) }
@@ -627,7 +627,7 @@ fn note_inside<'a>(
     command: &'a Command,
 ) -> Result<Open, NoMemory>
     ensures adds { OnOk result
-        (Adds notes.old notes.new (done_by around.entry behind command.now)) }
+        (AddsIncidents notes.old notes.new (command_done_by around.entry behind command.now)) }
     ensures after { IfOk result (λ after. after ≡ opened_by around.entry behind command.now) }
     ensures noted { OnOk result (StaysNoted notes.old notes.new) }
 {
@@ -648,7 +648,7 @@ fn note_parts<'a>(
     parted: bool,
     parts: &'a [Vec<Command>],
 ) -> Result<Open, NoMemory>
-    ensures adds { OnOk result (Adds notes.old notes.new
+    ensures adds { OnOk result (AddsIncidents notes.old notes.new
         (parts_done_by around.entry stepped parted behind parts.now)) }
     ensures after { IfOk result (λ after. after
         ≡ parts_opened_by around.entry stepped behind parts.now) }
@@ -671,7 +671,7 @@ pub fn note_body<'a>(
     stages: &[usize],
     body: &'a Command,
 ) -> Result<(), NoMemory>
-    ensures adds { OnOk result (Adds notes.old notes.new
+    ensures adds { OnOk result (AddsIncidents notes.old notes.new
         (body_done_by stages.now body.now)) }
     ensures noted { OnOk result (StaysNoted notes.old notes.new) }
 {

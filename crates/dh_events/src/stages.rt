@@ -1,36 +1,17 @@
 //! How many phases the commands of a program have, by their numbers.
 
-ghost use Rattle.std.specs.Prelude.{◌≡◌, ◌+◌, if◌then◌else◌, IfOk, OnOk, map, min};
+ghost use Rattle.std.specs.Prelude.{◌≡◌, if◌then◌else◌, IfOk, OnOk, map};
 ghost use Rattle.dh_tree.specs.Seen.{action_form_seen, action_seen, part_seen, view_plan, groups, maybe_block_seen};
 ghost use Rattle.dh_tree.specs.ViewOffsets as offsets;
 ghost use Rattle.dh_events.specs.Stages.{form_stages, groups_stages, other_stages, stages_in};
-ghost use Rattle.dh_tree.specs.PhaseKinds.{phase_kind, form_phase_kind, other_phase_kind, groups_phase_kind, choice_kind, turns_kind};
-ghost use Rattle.dh_events.specs.Tables.{AreNumbers};
+ghost use Rattle.dh_tree.specs.PhaseKinds.{phase_kind, form_phase_kind, other_phase_kind, groups_phase_kind};
+ghost use Rattle.dh_events.specs.Tables.{ChangesNumbers};
 
 use crate::tables::set_at;
 use dh_base::NoMemory;
-use dh_meaning::turn_count;
+use dh_meaning::{kind_behind, kind_of_choice, kind_of_turns, turn_count};
 use dh_tree::{Command, CommandForm, ViewForm};
 use dh_viewing::moves;
-
-/// How many phases a loop has, by those of its body and of the block that joins its copies: none,
-/// where it has no turn or its turns none; else its turns are one that is not Straight (2).
-pub(crate) fn loop_stages(turns: u64, body: usize, combine: usize) -> usize
-    ensures { result ≡ turns_kind turns body combine }
-{
-    if turns == 0 || (body == 0 && combine == 0) {
-        0
-    } else {
-        2
-    }
-}
-
-/// How many phases an `if` has: it is straight where its arms are.
-pub(crate) fn choice_stages(chosen: usize, other: usize) -> usize
-    ensures { result ≡ choice_kind chosen other }
-{
-    if chosen.max(other) >= 2 { 2 } else { 1 }
-}
 
 /// How many phases a view has: one where it moves.
 pub(crate) fn view_stages(form: &ViewForm) -> usize
@@ -39,22 +20,11 @@ pub(crate) fn view_stages(form: &ViewForm) -> usize
     if moves(form) { 1 } else { 0 }
 }
 
-/// How many phases there are with those of a part behind others (2 for more).
-pub(crate) fn stages_behind(before: usize, part: usize) -> usize
-    ensures { result ≡ min 2 (before + part) }
-{
-    if before >= 2 || part >= 2 {
-        2
-    } else {
-        (before + part).min(2)
-    }
-}
-
 /// How many phases a command has: none, one Straight phase, or others (2). Notes that of it and of
 /// each command inside it.
 #[cycle(stages)]
 pub fn note_stages(stages: &mut Vec<usize>, command: &Command) -> Result<usize, NoMemory>
-    ensures noted { OnOk result (AreNumbers stages.old stages.new
+    ensures noted { OnOk result (ChangesNumbers stages.old stages.new
         (stages_in (action_seen command.now))) }
     ensures own { IfOk result (λ own. own ≡ phase_kind (action_seen command.now)) }
 {
@@ -67,7 +37,7 @@ pub fn note_stages(stages: &mut Vec<usize>, command: &Command) -> Result<usize, 
 #[cycle(stages)]
 #[tactic(auto, using(dh_tree::proofs::SeenActions::actions_are))]
 fn note_inside(stages: &mut Vec<usize>, form: &CommandForm) -> Result<usize, NoMemory>
-    ensures noted { OnOk result (AreNumbers stages.old stages.new
+    ensures noted { OnOk result (ChangesNumbers stages.old stages.new
         (form_stages (action_form_seen form.now))) }
     ensures own { IfOk result (λ own. own ≡ form_phase_kind (action_form_seen form.now)) }
 {
@@ -80,7 +50,7 @@ fn note_inside(stages: &mut Vec<usize>, form: &CommandForm) -> Result<usize, NoM
         CommandForm::If { then, other, .. } => {
             let chosen = note_stages(stages, then)?;
             let others = note_other(stages, other)?;
-            Ok(choice_stages(chosen, others))
+            Ok(kind_of_choice(chosen, others))
         }
         CommandForm::While { body, .. } => {
             note_stages(stages, body)?;
@@ -95,7 +65,7 @@ fn note_inside(stages: &mut Vec<usize>, form: &CommandForm) -> Result<usize, NoM
             let inner = note_stages(stages, body)?;
             let joins = note_other(stages, combine)?;
             let turns = turn_count(header.low, header.high, header.factor);
-            Ok(loop_stages(turns, inner, joins))
+            Ok(kind_of_turns(turns, inner, joins))
         }
         CommandForm::View { form, .. } => Ok(view_stages(form)),
         CommandForm::LetMemory { .. } | CommandForm::Call { .. } => Ok(0),
@@ -105,7 +75,7 @@ fn note_inside(stages: &mut Vec<usize>, form: &CommandForm) -> Result<usize, NoM
 /// Those of a block that may lack.
 #[cycle(stages)]
 fn note_other(stages: &mut Vec<usize>, other: &Option<Box<Command>>) -> Result<usize, NoMemory>
-    ensures noted { OnOk result (AreNumbers stages.old stages.new
+    ensures noted { OnOk result (ChangesNumbers stages.old stages.new
         (other_stages (maybe_block_seen other.now))) }
     ensures own { IfOk result (λ own. own ≡ other_phase_kind (maybe_block_seen other.now)) }
 {
@@ -118,7 +88,7 @@ fn note_other(stages: &mut Vec<usize>, other: &Option<Box<Command>>) -> Result<u
 /// Those of a block.
 #[cycle(stages)]
 fn note_block(stages: &mut Vec<usize>, body: &[Vec<Command>]) -> Result<usize, NoMemory>
-    ensures noted { OnOk result (AreNumbers stages.old stages.new
+    ensures noted { OnOk result (ChangesNumbers stages.old stages.new
         (groups_stages (groups (map part_seen body.now)))) }
     ensures own { IfOk result (λ own. own ≡ groups_phase_kind (groups (map part_seen body.now))) }
 {
@@ -128,7 +98,7 @@ fn note_block(stages: &mut Vec<usize>, body: &[Vec<Command>]) -> Result<usize, N
         for command in part.as_slice() {
             most = note_stages(stages, command)?.max(most);
         }
-        all = stages_behind(all, most);
+        all = kind_behind(all, most);
     }
     Ok(all)
 }

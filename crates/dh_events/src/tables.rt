@@ -1,14 +1,14 @@
 //! Numbers by number: what stands at a place that was never set is 0.
 
 ghost use Rattle.std.specs.Prelude.{◌≡◌, ◌≤◌, OnOk, length, slice_index};
-ghost use Rattle.dh_events.specs.Tables.{with_number, AreNumbers};
+ghost use Rattle.dh_events.specs.Tables.{with_number, ChangesNumbers};
 
 use dh_base::NoMemory;
 
 /// Adds zeros up to a length.
 #[tactic(auto, using(crate::proofs::Turns::zeros_more))]
 fn grow(numbers: &mut Vec<usize>, to: usize) -> Result<(), NoMemory>
-    ensures same { OnOk result (AreNumbers numbers.old numbers.new (λ f. f)) }
+    ensures same { OnOk result (ChangesNumbers numbers.old numbers.new (λ f. f)) }
     ensures long { OnOk result (to ≤ length numbers.new.items) }
 {
     for _ in numbers.len()..to {
@@ -20,7 +20,7 @@ fn grow(numbers: &mut Vec<usize>, to: usize) -> Result<(), NoMemory>
 /// Puts a number at a place, which memory may lack.
 #[tactic(auto, using(crate::proofs::Turns::number_set))]
 pub fn set_number(numbers: &mut Vec<usize>, place: usize, number: usize) -> Result<(), NoMemory>
-    ensures { OnOk result (AreNumbers numbers.old numbers.new (λ f. with_number f place number)) }
+    ensures { OnOk result (ChangesNumbers numbers.old numbers.new (λ f. with_number f place number)) }
 {
     grow(numbers, place.saturating_add(1))?;
     numbers[place] = number;
@@ -29,7 +29,7 @@ pub fn set_number(numbers: &mut Vec<usize>, place: usize, number: usize) -> Resu
 
 /// Puts a number at a place.
 pub fn set_at(numbers: &mut Vec<usize>, place: u32, number: usize) -> Result<(), NoMemory>
-    ensures { OnOk result (AreNumbers numbers.old numbers.new (λ f. with_number f place number)) }
+    ensures { OnOk result (ChangesNumbers numbers.old numbers.new (λ f. with_number f place number)) }
 {
     set_number(numbers, place as usize, number)
 }

@@ -17,7 +17,7 @@ use Rattle.dh_expressions.specs.declared.drafts.Draft.{Draft}
 use Rattle.dh_expressions.specs.declared.scenes.Around.{Around}
 use Rattle.dh_expressions.specs.declared.scenes.Scene.{Scene}
 use Rattle.dh_expressions.specs.Copying.{AddsAllCopies, AreCopies, AreNone}
-use Rattle.dh_expressions.specs.Drafted.{BlockBegun, Extends, FitsStep, Names, BlockStep, word_shown, tale, told_block}
+use Rattle.dh_expressions.specs.Drafted.{BlockBegun, Extends, FitsStep, AddsRangeFault, BlockStep, word_shown, tale, told_block}
 use Rattle.dh_expressions.specs.Evaluated.{Knows, View}
 use Rattle.dh_expressions.specs.Noted.{Notes, given_in, given_then, given_to, has_no_operations, is_bare_of, noted_in, touched_in, touched_of}
 use Rattle.dh_expressions.specs.Standings.{IsTouched, AccessStanding, copy_places}
@@ -27,18 +27,18 @@ use Rattle.dh_expressions.proofs.Pushing.{at_seam, begun_later, extends_again, e
 
 -- A fault that is named.
 
-pub named_extends : (d e : Draft) (number : ℕ) (place : Place) → Names d e number place → Extends d e
+pub named_extends : (d e : Draft) (number : ℕ) (place : Place) → AddsRangeFault d e number place → Extends d e
 named_extends d e number place h = record {
   operations = λ n o at. subst (λ (os : List Operation). slice_get os n ≡ Some o) (sym h.operations) at;
   faults = λ n k at. subst (λ (fs : List (FaultKind × Place)). slice_get fs n ≡ Some k) (sym h.faults) (in_front d.faults _ n k at);
   longer = let l : length e.operations.items ≡ length d.operations.items = ap (λ (os : List Operation). length os) h.operations in omega (arith, l);
 }
 
-named_quiet : (d e : Draft) (number : ℕ) (place : Place) → Names d e number place → (x : BlockStep) → tale x e ≡ tale x d
+named_quiet : (d e : Draft) (number : ℕ) (place : Place) → AddsRangeFault d e number place → (x : BlockStep) → tale x e ≡ tale x d
 named_quiet d e number place h x = ap (λ (os : List Operation). told_block x.named (block_events x.start x.first x.words (drop x.first os))) h.operations
 
 -- the plan has the fault under the number that was given
-named_there : (d e k : Draft) (number : ℕ) (place : Place) → Names d e number place → Extends e k → (x : BlockStep) → FitsStep x k → slice_get x.named number ≡ Some (OutOfRange, place)
+named_there : (d e k : Draft) (number : ℕ) (place : Place) → AddsRangeFault d e number place → Extends e k → (x : BlockStep) → FitsStep x k → slice_get x.named number ≡ Some (OutOfRange, place)
 named_there d e k number place h more x f =
     ap (λ n. slice_get x.named n) (h.number_is (let w = place_within x.named (length d.faults) (OutOfRange, place) found in let l = f.few in omega (arith, w, l))) ∙ found
   where
@@ -78,7 +78,7 @@ touched_already scene around s d a number e = record {
     by (Some (Some t)) is within e = (t, refl)
 
 pub touched_first : (scene : Scene) (around : Around) (s : AccessStanding) (d e k : Draft) (before after : Accesses) (number fault : ℕ) (copies : List AccessAt) (numbers : List ℕ) (t : Touched)
-    → has_no_operations before number ≡ true → Names d e fault s.place → MakesCopies e k scene around numbers s copies
+    → has_no_operations before number ≡ true → AddsRangeFault d e fault s.place → MakesCopies e k scene around numbers s copies
     → t.fault ≡ fault → t.copies ≡ copies → t.given ≡ [] → after.touched.items ≡ slice_set before.touched.items number (Some t) → after.counts.items ≡ numbers
     → TouchesAt scene around s d k before after number
 touched_first scene around s d e k before after number fault copies numbers t bare named made fault_is copies_are given_none put counts = record {
@@ -96,7 +96,7 @@ touched_first scene around s d e k before after number fault copies numbers t ba
     added : AddsTouched d k scene around s t
     added = record {
       middle = e;
-      names = subst (λ (n : ℕ). Names d e n s.place) (sym fault_is) named;
+      names = subst (λ (n : ℕ). AddsRangeFault d e n s.place) (sym fault_is) named;
       copies = λ scopes low. subst (λ (cs : List AccessAt). AddsAllCopies s.leader s.bank (copy_places s) s.guards e k cs) (sym copies_are) (made.adds scopes low);
     }
 

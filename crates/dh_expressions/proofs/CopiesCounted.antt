@@ -11,7 +11,7 @@ use Rattle.std.proofs.lemmas.Nat.{le-div}
 use Rattle.dh_events.specs.Tables.{table_at, with_number}
 use Rattle.dh_expressions.specs.declared.paths.Level.{Level}
 use Rattle.dh_expressions.specs.declared.tallies.Tally.{Tally}
-use Rattle.dh_expressions.specs.Counting.{IsTally, PlacesNext, carried_before, leaders_in, most_in, numbers_in, numbers_with, places_by, tally_in, tally_with}
+use Rattle.dh_expressions.specs.Counting.{IsTally, PlacesNextCopy, carried_before, leaders_in, most_in, numbers_in_group, numbers_with, places_by, tally_in, tally_with}
 use Rattle.dh_expressions.specs.Levels.{rank_number, rank_to}
 use Rattle.dh_expressions.specs.Numbers.{narrowed}
 
@@ -257,7 +257,7 @@ module _ (leader bank group : ℕ → ℕ) where
         cut : (s c : ℕ) → s ≡ c → c ≤ n → min s (2 ^ 64 - 1) ≡ c
         cut s c e le = omega (arith, e, le, few)
 
-    pub enters : (t : Tally) (numbers : List ℕ) → IsTally leader bank group n t numbers → Enters (tally_in t (group n)) (numbers_in t (group n) numbers)
+    pub enters : (t : Tally) (numbers : List ℕ) → IsTally leader bank group n t numbers → Enters (tally_in t (group n)) (numbers_in_group t (group n) numbers)
     enters t numbers h = by (t.group == group n) refl
       where
         apart : (a b : ℕ) → (a == b) ≡ false → a ≡ b → ⊥
@@ -353,31 +353,31 @@ module _ (leader bank group : ℕ → ℕ) where
       pub tally : IsTally leader bank group (suc n) t numbers
 
     pub counted_next : (t next : Tally) (numbers after : List ℕ) (place l b g : ℕ) (leads : Bool) → l ≡ leader n → b ≡ bank n → g ≡ group n → leads ≡ (l == n)
-        → IsTally leader bank group n t numbers → PlacesNext t g b leads numbers after next place → Counts next after place
+        → IsTally leader bank group n t numbers → PlacesNextCopy t g b leads numbers after next place → Counts next after place
     counted_next t next numbers after place l b g leads led_by reached grouped leading h p = record {
-      place_is = place_now (tally_in t (group n)) (numbers_in t (group n) numbers) after entered place moved.place_is;
+      place_is = place_now (tally_in t (group n)) (numbers_in_group t (group n) numbers) after entered place moved.place_is;
       tally = subst (λ (u : Tally). IsTally leader bank group (suc n) u after) (sym moved.next_is)
-          (tally_next (tally_in t (group n)) (numbers_in t (group n) numbers) after entered leads (sym (leading ∙ ap (λ m. m == n) led_by)) moved.counts);
+          (tally_next (tally_in t (group n)) (numbers_in_group t (group n) numbers) after entered leads (sym (leading ∙ ap (λ m. m == n) led_by)) moved.counts);
     }
       where
-        entered : Enters (tally_in t (group n)) (numbers_in t (group n) numbers)
+        entered : Enters (tally_in t (group n)) (numbers_in_group t (group n) numbers)
         entered = enters t numbers h
 
-        moved : PlacesNext t (group n) (bank n) leads numbers after next place
-        moved = subst (λ (m : ℕ). PlacesNext t m (bank n) leads numbers after next place) grouped (subst (λ (m : ℕ). PlacesNext t g m leads numbers after next place) reached p)
+        moved : PlacesNextCopy t (group n) (bank n) leads numbers after next place
+        moved = subst (λ (m : ℕ). PlacesNextCopy t m (bank n) leads numbers after next place) grouped (subst (λ (m : ℕ). PlacesNextCopy t g m leads numbers after next place) reached p)
 
 -- What a copy is counted by.
 pub placed_next : (t now next : Tally) (group bank count sum place : ℕ) (leads same : Bool) (numbers kept seen after : List ℕ)
     → same ≡ (t.group == group) → kept ≡ (if same then numbers else []) → now ≡ tally_in t group → seen ≡ kept → count ≡ slice_index seen bank → sum ≡ min (count + now.base) (2 ^ 64 - 1) → place ≡ narrowed sum
-    → next ≡ tally_with now leads count → table_at after ≡ (if leads then with_number (table_at kept) bank (min (count + 1) (2 ^ 64 - 1)) else table_at kept) → PlacesNext t group bank leads numbers after next place
+    → next ≡ tally_with now leads count → table_at after ≡ (if leads then with_number (table_at kept) bank (min (count + 1) (2 ^ 64 - 1)) else table_at kept) → PlacesNextCopy t group bank leads numbers after next place
 placed_next t now next group bank count sum place leads same numbers kept seen after same_is kept_is now_is seen_is count_is sum_is place_is next_is counts_are = record {
-  place_is = place_is ∙ ap narrowed (sum_is ∙ (ap (λ m. min (m + now.base) (2 ^ 64 - 1)) counted ∙ ap (λ (u : Tally). min (slice_index (numbers_in t group numbers) bank + u.base) (2 ^ 64 - 1)) now_is));
+  place_is = place_is ∙ ap narrowed (sum_is ∙ (ap (λ m. min (m + now.base) (2 ^ 64 - 1)) counted ∙ ap (λ (u : Tally). min (slice_index (numbers_in_group t group numbers) bank + u.base) (2 ^ 64 - 1)) now_is));
   next_is = next_is ∙ (ap (λ (u : Tally). tally_with u leads count) now_is ∙ ap (λ m. tally_with (tally_in t group) leads m) counted);
-  counts = counts_are ∙ (ap (λ m. numbers_with kept leads bank m) counted ∙ ap (λ ns. numbers_with ns leads bank (slice_index (numbers_in t group numbers) bank)) held);
+  counts = counts_are ∙ (ap (λ m. numbers_with kept leads bank m) counted ∙ ap (λ ns. numbers_with ns leads bank (slice_index (numbers_in_group t group numbers) bank)) held);
 }
   where
-    held : kept ≡ numbers_in t group numbers
+    held : kept ≡ numbers_in_group t group numbers
     held = kept_is ∙ ap (λ q. if q then numbers else []) same_is
 
-    counted : count ≡ slice_index (numbers_in t group numbers) bank
+    counted : count ≡ slice_index (numbers_in_group t group numbers) bank
     counted = count_is ∙ ap (λ ns. slice_index ns bank) (seen_is ∙ held)

@@ -15,10 +15,10 @@ use Rattle.dh_expressions.specs.declared.copies.AccessAt.{AccessAt}
 use Rattle.dh_expressions.specs.declared.drafts.Draft.{Draft}
 use Rattle.dh_expressions.specs.declared.scenes.Scene.{Scene}
 use Rattle.dh_expressions.specs.declared.tallies.Tally.{Tally}
-use Rattle.dh_expressions.specs.Copying.{AddsCopies, AddsCopy, AddsEither, AddsLeader, AddsOther, AreCopies, CopiesSoFar, Counts as Flags, DoneBy, HasScopes, IsCopy, JoinsGuards, JoinsLeader, MakesCopiesBy, depends_at, guard_put, with_guard}
-use Rattle.dh_expressions.specs.Counting.{IsTally, PlacesNext, places_by}
+use Rattle.dh_expressions.specs.Copying.{AddsCopies, AddsCopy, AddsEither, AddsLeader, AddsOther, AreCopies, CopiesSoFar, TellsCountedLevels as Flags, DoneBy, HasScopes, IsCopy, JoinsGuards, JoinsLeader, MakesCopiesBy, depends_at, guard_put, with_guard}
+use Rattle.dh_expressions.specs.Counting.{IsTally, PlacesNextCopy, places_by}
 use Rattle.dh_expressions.specs.Drafted.{BlockBegun, Computes, Extends, FitsStep, Pushes, BlockStep, holds, word_shown, tale}
-use Rattle.dh_expressions.specs.Levels.{counted}
+use Rattle.dh_expressions.specs.Levels.{is_counted_level}
 use Rattle.dh_expressions.specs.Shown.{guard_of}
 use Rattle.dh_expressions.proofs.CopiesCounted.{Counts, counted_next, tally_first}
 use Rattle.dh_expressions.proofs.ListPlaces.{place_of_more, place_within, set_here, set_long, set_other, some_same, there}
@@ -135,7 +135,7 @@ pub counts_more : (scene : Scene) (n : ℕ) (form : TermForm) (writes : Bool) (c
     → more ≡ counts ++ b ∷ [] → Flags scene n form writes counts → Flags scene (n + 1) form writes more
 counts_more scene n form writes counts more b is added h = record {
   long = ap length added ∙ (length-append counts _ ∙ ap (λ m. m + 1) h.long);
-  each = λ scopes level within small. ap (λ bs. counted bs level) added ∙ by scopes level small (cases_lt level n) within;
+  each = λ scopes level within small. ap (λ bs. is_counted_level bs level) added ∙ by scopes level small (cases_lt level n) within;
 }
   where
     front : (cs : List Bool) (k : ℕ) → k < length cs → get_or (cs ++ b ∷ []) k false ≡ get_or cs k false
@@ -149,7 +149,7 @@ counts_more scene n form writes counts more b is added h = record {
         less : (k l : ℕ) → suc k < suc l → k < l
         less k l e = omega (arith, e)
 
-    by : HasScopes scene → (level : ℕ) → IsLow level → (level < n) ⊎ (n ≤ level) → level < n + 1 → counted (counts ++ b ∷ []) level ≡ depends_at scene form writes level
+    by : HasScopes scene → (level : ℕ) → IsLow level → (level < n) ⊎ (n ≤ level) → level < n + 1 → is_counted_level (counts ++ b ∷ []) level ≡ depends_at scene form writes level
     by scopes level small (inl before) within = front counts level (subst (λ (m : ℕ). level < m) (sym h.long) before) ∙ h.each scopes level before small
     by scopes level small (inr behind) within =
         let own : level ≡ n = omega (arith, behind, within) in
@@ -389,7 +389,7 @@ counted_first leader bank group guards d t numbers copies is empty none = record
 
 pub counted_more : (leader bank group : ℕ → ℕ) (guards : List (Option ℕ)) (low : (p : ℕ) → leader p ≤ p) (rises : (m k : ℕ) → m ≤ k → group m ≤ group k) (old d e : Draft) (t next : Tally) (numbers after : List ℕ) (n l b g q : ℕ) (leads : Bool) (guard : Option ℕ)
     (copies more : List AccessAt) (few : n < 2 ^ 64 - 1) → l ≡ leader n → b ≡ bank n → g ≡ group n → leads ≡ (l == n) → guard ≡ guard_of guards n
-    → PlacesNext t g b leads numbers after next q → AddsCopy d e copies more n l b q guard → CountedSoFar leader bank group guards old d t numbers n copies
+    → PlacesNextCopy t g b leads numbers after next q → AddsCopy d e copies more n l b q guard → CountedSoFar leader bank group guards old d t numbers n copies
     → CountedSoFar leader bank group guards old e next after (n + 1) more
 counted_more leader bank group guards low rises old d e t next numbers after n l b g q leads guard copies more few is at grouped leading guarded placed adds h = record {
   copied = copies_more leader bank (places_by leader bank group) guards low old d e n l b q guard copies more is at counted.place_is guarded h.copied adds;

@@ -11,8 +11,8 @@ use Rattle.dh_expressions.specs.declared.copies.AccessAt.{AccessAt}
 use Rattle.dh_expressions.specs.declared.drafts.Draft.{Draft}
 use Rattle.dh_expressions.specs.declared.scenes.Around.{Around}
 use Rattle.dh_expressions.specs.declared.scenes.Scene.{Scene}
-use Rattle.dh_expressions.specs.Copying.{Counts, HasScopes, MakesCopiesBy, banks_by, depends_at, groups_by, leaders_by}
-use Rattle.dh_expressions.specs.Levels.{counted, leader_number, parts_from}
+use Rattle.dh_expressions.specs.Copying.{TellsCountedLevels, HasScopes, MakesCopiesBy, banks_by, depends_at, groups_by, leaders_by}
+use Rattle.dh_expressions.specs.Levels.{is_counted_level, leader_number, parts_from}
 use Rattle.dh_expressions.specs.Named.{known_in, shifts_on, way_named}
 use Rattle.dh_expressions.specs.Numbers.{narrowed}
 use Rattle.dh_expressions.specs.ReachedBanks.{TellsBank, bank_by, spans_number}
@@ -25,7 +25,7 @@ narrowed_same a b e = omega (arith, e)
 
 pub copies_stand : (scene : Scene) (around : Around) (memory : ℕ) (place : Place) (form : TermForm) (writes : Bool) (old new : Draft) (after : List ℕ)
     (counts flags : List Bool) (spans extents : List Span) (own shifts : ℕ) (copies : List AccessAt) → flags ≡ counts → extents ≡ spans → shifts ≡ shifts_on (way_named (known_in scene) form)
-    → Counts scene (length around.levels.now) form writes counts → TellsBank scene around.levels.now memory form spans own
+    → TellsCountedLevels scene (length around.levels.now) form writes counts → TellsBank scene around.levels.now memory form spans own
     → MakesCopiesBy old new after around.guards.now (leaders_by around.levels.now flags) (banks_by extents around.levels.now own) (groups_by around.levels.now shifts) copies
     → MakesCopies old new scene around after (standing_at scene around memory place form writes) copies
 copies_stand scene around memory place form writes old new after counts flags spans extents own shifts copies same alike grouped c tells m = record {
@@ -41,8 +41,8 @@ copies_stand scene around memory place form writes old new after counts flags sp
 
     leader_is : HasScopes scene → length around.levels.now < 2 ^ 63 → (path : ℕ) → leaders_by around.levels.now flags path ≡ leader_number around.levels.now (depends_at scene form writes) path
     leader_is scopes low path =
-        ap (λ fs. min (parts_from around.levels.now (counted fs) 0 path) path) same
-        ∙ ap (λ n. min n path) (parts_same around.levels.now (counted counts) (depends_at scene form writes) 0 path
+        ap (λ fs. min (parts_from around.levels.now (is_counted_level fs) 0 path) path) same
+        ∙ ap (λ n. min n path) (parts_same around.levels.now (is_counted_level counts) (depends_at scene form writes) 0 path
         (λ level from within. c.each scopes level (less level within) (let w = less level within in omega (arith, w, low))))
       where
         less : (level : ℕ) → level < 0 + length around.levels.now → level < length around.levels.now

@@ -35,13 +35,13 @@ use Rattle.dh_expressions.specs.declared.elements.Aim.{Aim}
 use Rattle.dh_expressions.specs.declared.scenes.Lane.{Lane}
 use Rattle.dh_expressions.specs.declared.scenes.Scene.{Scene}
 use Rattle.dh_expressions.specs.Copying.{IsCopy}
-use Rattle.dh_expressions.specs.Drafted.{BlockBegun, Extends, FitsStep, Pushes, BlockStep, Tale, fails_to_hold, fault_told, form_shown, holds, put, word_shown, tale, tales_told, told_block}
+use Rattle.dh_expressions.specs.Drafted.{BlockBegun, Extends, FitsStep, Pushes, BlockStep, Tale, fails_to_hold, fault_told, form_word_shown, holds, put, word_shown, tale, tales_told, told_block}
 use Rattle.dh_expressions.specs.Evaluated.{IsSited, Knows, NamesSmallBank, SourceMeans, View, begun_of, lane_guard, lane_path, numbers_shown, source_at}
 use Rattle.dh_expressions.specs.Named.{banks_below, known_in, way_named}
 use Rattle.dh_expressions.specs.Noted.{Notes, copied_in, copied_of, copy_or_alone, fault_in, fault_of_touched, given_by, touched_in}
 use Rattle.dh_expressions.specs.Numbers.{narrowed}
 use Rattle.dh_expressions.specs.ReachedBanks.{bank_by}
-use Rattle.dh_expressions.specs.Reaching.{AimsAt, Finds, FormHasTarget, IsAimed, IsRead, ReadsElement, RowIs, Tells, copy_banks, reach_at, reach_told, steps_shown}
+use Rattle.dh_expressions.specs.Reaching.{AimsAt, Finds, FormHasTarget, IsAimedAccess, IsRead, ReadsElement, RowIs, Tells, copy_banks, reach_at, reach_told, steps_shown}
 use Rattle.dh_expressions.specs.Standings.{IsTouched, AccessStanding, copy_places, standing_at}
 use Rattle.dh_expressions.specs.Touching.{IsNew, TouchesAt}
 use Rattle.dh_expressions.proofs.AccessesKept.{noted_knows, touched_knows}
@@ -82,10 +82,10 @@ module _ (d e : Draft) (number : ℕ) (guard : Option ℕ) (form : OperationForm
       nothing false = refl
 
   -- a word that is guarded by what holds
-  pub pushed_word : (x : BlockStep) → FitsStep x e → BlockBegun x d → holds x guard → word_shown x number ≡ form_shown x number form
+  pub pushed_word : (x : BlockStep) → FitsStep x e → BlockBegun x d → holds x guard → word_shown x number ≡ form_word_shown x number form
   pushed_word x f b on =
       f.solves number (record { guard = guard; form = form }) (let m = p.number_is in omega (arith, m, b)) (pushed_there d e number guard form p)
-      ∙ ap (λ (t : Bool). guarded t (form_shown x number form)) on
+      ∙ ap (λ (t : Bool). guarded t (form_word_shown x number form)) on
 
 -- Banks of a set, one after the other.
 pub banks_more : (s : BankSet) (place n : ℕ) (now new : List (ℕ × ℕ)) → now ≡ banks_below s place n → new ≡ (if is_in s n then now ++ (n, place) ∷ [] else now) → new ≡ banks_below s place (suc n)
@@ -336,7 +336,7 @@ module _ (scene : Scene) (lane : Lane) (place : Place) (form : plain.TermForm) (
   fits_touched : (v : View) → FitsStep v.step d3 → FitsStep v.step d1
   fits_touched v f = fits_before d1 d2 v.step (pushed_extends d1 d2 probe (lane_guard lane) _ p) (fits_before d2 d3 v.step (pushed_extends d2 d3 number (lane_guard lane) _ w) f)
 
-  pub write_made_at : Tells (lane_guard lane) d0 d3 a0 a1 (λ v. IsSited scene lane v memory aim.number place form true) (λ v. IsAimed lane form memory aim target v)
+  pub write_made_at : Tells (lane_guard lane) d0 d3 a0 a1 (λ v. IsSited scene lane v memory aim.number place form true) (λ v. IsAimedAccess lane form memory aim target v)
       (λ v. write_made (reach_at place memory aim.number) (lane_path lane) (word_shown v.step value).bits (spot_meant v) ∷ [])
   write_made_at = record {
     extends = extends_again d0 d1 d3 t.extends (extends_again d1 d2 d3 (pushed_extends d1 d2 probe (lane_guard lane) _ p) (pushed_extends d2 d3 number (lane_guard lane) _ w));

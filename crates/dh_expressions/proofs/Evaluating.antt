@@ -39,7 +39,7 @@ use Rattle.dh_expressions.specs.Drafted.{BlockBegun, Computes, Extends, FitsStep
 use Rattle.dh_expressions.specs.Shown.{applied_shown, conversion_shown, extended_shown, is_kept, kind_written}
 use Rattle.dh_expressions.specs.Evaluated.{AimsByIndices, AimsByRow, Evaluates, EvaluatesAll, EvaluatesIndices, EvaluatesTerm, Fair, FairAll, IsDone, IsSited, Knows, PassesWay, Sees, SeesAll, SeesWay, ShowsVariable, View, begun_of, known_in, lane_guard, lane_path, numbers_shown, term_told, term_value, terms_told, terms_values}
 use Rattle.dh_expressions.specs.Named.{first_view}
-use Rattle.dh_expressions.specs.Reaching.{AimsAt, HasTarget, IsFairRead, IsRead, ReadsAt, ReadsElement, ReadsNext, RowIs, reach_at}
+use Rattle.dh_expressions.specs.Reaching.{AimsAt, HasTarget, IsFairRead, IsRead, ReadsAt, ReadsElement, ReadsNextElement, RowIs, reach_at}
 use Rattle.dh_expressions.proofs.Pushing.{begun_later, extends_again, extends_self, fits_before, gives}
 use Rattle.dh_expressions.proofs.WaysShown.{way_aims, way_extends, way_quiet}
 
@@ -503,7 +503,7 @@ module _ (scene : Scene) (lane : Lane) (current : List (Option ℕ)) where
   by_form d0 d1 a b n e f r is h = subst (λ (g : plain.TermForm). EvaluatesTerm scene lane current d0 d1 a b n (plain.term e.place e.kind g) r) (sym is) h
 
   pub access_formed : (d0 d1 d2 d3 : Draft) (a0 a1 a2 : Accesses) (n : ℕ) (e : Expr) (r : Ref) (ts : plain.Terms) (listed aim : Aim) (valued : Valued)
-      → form_seen e.form ≡ plain.accessed r ts → AimsByIndices scene lane current d0 d1 a0 a1 n ts listed → PassesWay scene lane current d1 d2 r listed aim → ReadsNext scene lane d2 d3 a1 a2 (term_seen e) r aim valued
+      → form_seen e.form ≡ plain.accessed r ts → AimsByIndices scene lane current d0 d1 a0 a1 n ts listed → PassesWay scene lane current d1 d2 r listed aim → ReadsNextElement scene lane d2 d3 a1 a2 (term_seen e) r aim valued
       → EvaluatesTerm scene lane current d0 d3 a0 a2 n (term_seen e) valued
   access_formed d0 d1 d2 d3 a0 a1 a2 n e r ts listed aim valued is aims passes h =
       by_form d0 d3 a0 a2 n e (plain.accessed r ts) _ is
@@ -512,7 +512,7 @@ module _ (scene : Scene) (lane : Lane) (current : List (Option ℕ)) where
       (subst (λ (g : plain.TermForm). ReadsAt scene lane d2 d3 a1 a2 (plain.term e.place e.kind g) (memory_of (known_in scene) r) aim valued.value) is h.reads)))
 
   pub bank_formed : (d0 d1 d2 : Draft) (a0 a1 a2 : Accesses) (n : ℕ) (e : Expr) (r : Ref) (bank : ℕ) (at : Place) (t : plain.Term) (aim : Aim) (valued : Valued)
-      → form_seen e.form ≡ plain.in_bank r bank at t → AimsByRow scene lane current d0 d1 a0 a1 n t aim → ReadsNext scene lane d1 d2 a1 a2 (term_seen e) r aim valued
+      → form_seen e.form ≡ plain.in_bank r bank at t → AimsByRow scene lane current d0 d1 a0 a1 n t aim → ReadsNextElement scene lane d1 d2 a1 a2 (term_seen e) r aim valued
       → EvaluatesTerm scene lane current d0 d2 a0 a2 n (term_seen e) valued
   bank_formed d0 d1 d2 a0 a1 a2 n e r bank at t aim valued is aims h =
       by_form d0 d2 a0 a2 n e (plain.in_bank r bank at t) _ is

@@ -11,7 +11,7 @@ use Rattle.dh_plan.specs.declared.operations.OperationForm.{OperationForm}
 use Rattle.dh_plan.specs.Blocks.{StepStart, BlockEvent, block_events, operation_form_events}
 use Rattle.dh_plan.proofs.Appends.{events_behind}
 use Rattle.dh_expressions.specs.declared.drafts.Draft.{Draft}
-use Rattle.dh_expressions.specs.Drafted.{BlockStep, word_shown, form_shown, FitsStep, BlockBegun, told_block, Extends, Pushes, Computes, Gives}
+use Rattle.dh_expressions.specs.Drafted.{BlockStep, word_shown, form_word_shown, FitsStep, BlockBegun, told_block, Extends, Pushes, Computes, Gives}
 
 pub in_front : {A : Type 0} (xs ys : List A) (i : ℕ) (y : A) → slice_get xs i ≡ Some y → slice_get (xs ++ ys) i ≡ Some y
 in_front [] ys i y e = absurd (cc)
@@ -70,7 +70,7 @@ module _ (old new : Draft) (number : ℕ) (guard : Option ℕ) (form : Operation
 -- an operation without a guard that has no events computes what its form gives
 pub computes : (old new : Draft) (number : ℕ) (form : OperationForm) → Pushes old new number None form
     → ((s : StepStart) (first : ℕ) (ws : List Word) → operation_form_events s first ws form ≡ [])
-    → Computes old new number (λ x. form_shown x number form)
+    → Computes old new number (λ x. form_word_shown x number form)
 computes old new number form p still = record {
   extends = pushed_extends old new number None form p;
   below = let l = pushed_longer old new number None form p in let m = p.number_is in omega (arith, l, m);

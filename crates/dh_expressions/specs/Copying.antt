@@ -16,7 +16,7 @@ use Rattle.dh_expressions.specs.declared.paths.Level.{Level}
 use Rattle.dh_expressions.specs.declared.scenes.Scene.{Scene}
 use Rattle.dh_expressions.specs.Counting.{places_by}
 use Rattle.dh_expressions.specs.Drafted.{BlockBegun, Extends, FitsStep, Pushes, BlockStep, holds, tale}
-use Rattle.dh_expressions.specs.Levels.{counted, leader_number, rank_number}
+use Rattle.dh_expressions.specs.Levels.{is_counted_level, leader_number, rank_number}
 use Rattle.dh_expressions.specs.Numbers.{narrowed}
 use Rattle.dh_expressions.specs.ReachedBanks.{spans_number}
 use Rattle.dh_expressions.specs.Shown.{guard_of}
@@ -33,12 +33,12 @@ abbrev pub HasScopes : Scene → Type 0
 HasScopes scene = AreScopes (all_bindings_of (program_seen scene.program.now)) scene.scopes.now
 
 -- flags of so many loops that say so
-pub record Counts (scene : Scene) (levels : ℕ) (form : TermForm) (writes : Bool) (counts : List Bool) : Type 0 where
+pub record TellsCountedLevels (scene : Scene) (levels : ℕ) (form : TermForm) (writes : Bool) (counts : List Bool) : Type 0 where
   pub long : length counts ≡ levels
-  pub each : HasScopes scene → (level : ℕ) → level < levels → IsLow level → counted counts level ≡ depends_at scene form writes level
+  pub each : HasScopes scene → (level : ℕ) → level < levels → IsLow level → is_counted_level counts level ≡ depends_at scene form writes level
 
 abbrev pub leaders_by : List Level → List Bool → (path : ℕ) → ℕ
-leaders_by levels counts path = leader_number levels (counted counts) path
+leaders_by levels counts path = leader_number levels (is_counted_level counts) path
 
 abbrev pub banks_by : List Span → List Level → (own : ℕ) → (path : ℕ) → ℕ
 banks_by spans levels own path = narrowed (spans_number spans levels own path)

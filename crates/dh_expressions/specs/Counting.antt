@@ -49,8 +49,8 @@ places_by leader bank group path = narrowed (copy_place leader bank group path)
 abbrev pub tally_in : Tally → (group : ℕ) → Tally
 tally_in t group = if t.group == group then t else record { group = group; base = min (t.base + t.most) (2 ^ 64 - 1); most = 0 }
 
-abbrev pub numbers_in : Tally → (group : ℕ) → List ℕ → List ℕ
-numbers_in t group numbers = if t.group == group then numbers else []
+abbrev pub numbers_in_group : Tally → (group : ℕ) → List ℕ → List ℕ
+numbers_in_group t group numbers = if t.group == group then numbers else []
 
 -- one more copy, which leads or does not, where so many leaders are on its bank
 abbrev pub tally_with : Tally → (leads : Bool) → (count : ℕ) → Tally
@@ -60,7 +60,7 @@ abbrev pub numbers_with : List ℕ → (leads : Bool) → (bank count : ℕ) →
 numbers_with numbers leads bank count = if leads then with_number (table_at numbers) bank (min (count + 1) (2 ^ 64 - 1)) else table_at numbers
 
 -- the copy at the next path is counted, and has this place
-pub record PlacesNext (t : Tally) (group bank : ℕ) (leads : Bool) (numbers after : List ℕ) (next : Tally) (place : ℕ) : Type 0 where
-  pub place_is : place ≡ narrowed (min (slice_index (numbers_in t group numbers) bank + (tally_in t group).base) (2 ^ 64 - 1))
-  pub next_is : next ≡ tally_with (tally_in t group) leads (slice_index (numbers_in t group numbers) bank)
-  pub counts : table_at after ≡ numbers_with (numbers_in t group numbers) leads bank (slice_index (numbers_in t group numbers) bank)
+pub record PlacesNextCopy (t : Tally) (group bank : ℕ) (leads : Bool) (numbers after : List ℕ) (next : Tally) (place : ℕ) : Type 0 where
+  pub place_is : place ≡ narrowed (min (slice_index (numbers_in_group t group numbers) bank + (tally_in t group).base) (2 ^ 64 - 1))
+  pub next_is : next ≡ tally_with (tally_in t group) leads (slice_index (numbers_in_group t group numbers) bank)
+  pub counts : table_at after ≡ numbers_with (numbers_in_group t group numbers) leads bank (slice_index (numbers_in_group t group numbers) bank)

@@ -32,8 +32,8 @@ holds x guard = is_on x.first x.words guard ≡ true
 abbrev pub fails_to_hold : BlockStep → Option ℕ → Type 0
 fails_to_hold x guard = is_on x.first x.words guard ≡ false
 
-abbrev pub form_shown : BlockStep → (number : ℕ) → OperationForm → Word
-form_shown x number form = form_word x.start (in_memories x.start x.first) x.first x.words number form
+abbrev pub form_word_shown : BlockStep → (number : ℕ) → OperationForm → Word
+form_word_shown x number form = form_word x.start (in_memories x.start x.first) x.first x.words number form
 
 abbrev pub operation_shown : BlockStep → (number : ℕ) → Operation → Word
 operation_shown x number o = operation_word x.start (in_memories x.start x.first) x.first x.words number o
@@ -87,7 +87,7 @@ pub record Pushes (old new : Draft) (number : ℕ) (guard : Option ℕ) (form : 
   pub number_is : number ≡ length old.operations.items
 
 -- one fault more: an access at this place that is out of range
-pub record Names (old new : Draft) (number : ℕ) (place : Place) : Type 0 where
+pub record AddsRangeFault (old new : Draft) (number : ℕ) (place : Place) : Type 0 where
   pub operations : new.operations.items ≡ old.operations.items
   pub faults : new.faults ≡ old.faults ++ (OutOfRange, place) ∷ []
   pub number_is : length old.faults < 4294967296 → number ≡ length old.faults

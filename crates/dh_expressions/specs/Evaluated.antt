@@ -241,8 +241,8 @@ module _ (scene : Scene) (lane : Lane) (v : View) (memory number : ℕ) (place :
     pub made : DoneBy v.step standing.leader standing.guards (length standing.guards) (standing.leader lane.number)
 
 -- an expression that needs no conversion gives a word of the kind
-abbrev pub IsKept : Scene → Lane → View → (n : ℕ) → plain.Term → Kind → Type 0
-IsKept scene lane v n t to = is_kept t to ≡ true → word_of to (words.value_of (term_value scene lane v n t)) ≡ term_value scene lane v n t
+abbrev pub TermKeepsKind : Scene → Lane → View → (n : ℕ) → plain.Term → Kind → Type 0
+TermKeepsKind scene lane v n t to = is_kept t to ≡ true → word_of to (words.value_of (term_value scene lane v n t)) ≡ term_value scene lane v n t
 
 module _ (scene : Scene) (lane : Lane) (current : List (Option ℕ)) (v : View) where
   -- a variable that keeps an offset shows it as the program has it
@@ -282,8 +282,8 @@ module _ (scene : Scene) (lane : Lane) (current : List (Option ℕ)) (v : View) 
     SeesForm n place k (plain.in_bank r bank at row) = Sees n row × Done n (n + term_accesses row) r place k (plain.in_bank r bank at row)
     SeesForm n place k (plain.applied op left right) =
         (Sees n left × Sees (n + term_accesses left) right)
-        × (IsKept scene lane v n left (extension_of op (kind_written left) (kind_written right)) × IsKept scene lane v (n + term_accesses left) right (extension_of op (kind_written left) (kind_written right)))
-    SeesForm n place k (plain.converted inner to) = Sees n inner × IsKept scene lane v n inner to
+        × (TermKeepsKind scene lane v n left (extension_of op (kind_written left) (kind_written right)) × TermKeepsKind scene lane v (n + term_accesses left) right (extension_of op (kind_written left) (kind_written right)))
+    SeesForm n place k (plain.converted inner to) = Sees n inner × TermKeepsKind scene lane v n inner to
 
     pub SeesAll : (n : ℕ) → plain.Terms → Type 0
     SeesAll n plain.no_terms = Unit {0}

@@ -28,8 +28,8 @@ abbrev pub last_number : List Level → (depth number : ℕ) → ℕ
 last_number levels depth number = if depth == 0 then 0 else copy_to (slice_get levels (depth - 1)) number
 
 -- whether a loop counts, by a list of flags
-abbrev pub counted : List Bool → (level : ℕ) → Bool
-counted counts level = slice_index_or counts level false
+abbrev pub is_counted_level : List Bool → (level : ℕ) → Bool
+is_counted_level counts level = slice_index_or counts level false
 
 -- what the copy of a loop adds to the number of a path, where that loop counts
 abbrev pub part_number : Level → (counts : Bool) → (number : ℕ) → ℕ

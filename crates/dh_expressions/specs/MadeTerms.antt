@@ -27,7 +27,7 @@ use Rattle.dh_expressions.specs.Named.{first_view, known_in}
 use Rattle.dh_expressions.specs.Noted.{Notes, copied_in, fault_in, given_by}
 use Rattle.dh_expressions.specs.Reaching.{Finds, copy_banks, reach_told}
 use Rattle.dh_expressions.specs.Shown.{is_kept}
-use Rattle.dh_expressions.specs.Touching.{Touches}
+use Rattle.dh_expressions.specs.Touching.{TouchesAccess}
 
 -- The reading of an element that these values name: its copies, where they are not made yet, its probe, and the read
 -- where it was not made before. What it gives is noted.
@@ -35,7 +35,7 @@ pub record MadeRead (scene : Scene) (lane : Lane) (access : plain.Term) (memory 
   pub first : Draft
   pub second : Draft
   pub middle : Accesses
-  pub touches : Touches scene lane.around memory access false old first before middle aim.number
+  pub touches : TouchesAccess scene lane.around memory access false old first before middle aim.number
   pub probes : Pushes first second (length first.operations.items) (lane_guard lane) (Probe (reach_told memory aim []) (fault_in middle aim.number))
   pub finds : Finds scene (form_of access) second new memory aim (copied_in middle aim.number lane.number) (given_by middle (source_at (slice_get scene.shares.now aim.number) aim.number lane.number (copied_in middle aim.number lane.number).leader)) v
   pub notes : Notes middle after aim.number lane.number v
@@ -45,7 +45,7 @@ pub record MadeWrite (scene : Scene) (lane : Lane) (access : plain.Term) (memory
   pub first : Draft
   pub second : Draft
   pub number : ℕ
-  pub touches : Touches scene lane.around memory access true old first before after aim.number
+  pub touches : TouchesAccess scene lane.around memory access true old first before after aim.number
   pub probes : Pushes first second (length first.operations.items) (lane_guard lane) (Probe (reach_told memory aim []) (fault_in after aim.number))
   pub writes : Pushes second new number (lane_guard lane) (Write (reach_told memory aim (copy_banks scene (form_of access) (copied_in after aim.number lane.number))) value)
 
@@ -83,8 +83,8 @@ pub record MadePassing (scene : Scene) (lane : Lane) (current : List (Option ℕ
 -- Parts of an expression, put together. Of each part it is told which drafts, accesses and numbers it leads from
 -- and to, and what it gives.
 
-abbrev pub Making : Type 0 → Type 1
-Making V = (old new : Draft) → (before after : Accesses) → (n next : ℕ) → V → Type 0
+abbrev pub PartMaking : Type 0 → Type 1
+PartMaking V = (old new : Draft) → (before after : Accesses) → (n next : ℕ) → V → Type 0
 
 -- a part that no access is in
 pub record MadeAlone (Part : (old new : Draft) → (v : ℕ) → Type 0) (old new : Draft) (before after : Accesses) (n next v : ℕ) : Type 0 where
@@ -93,7 +93,7 @@ pub record MadeAlone (Part : (old new : Draft) → (v : ℕ) → Type 0) (old ne
   pub part : Part old new v
 
 -- an access behind its indices, and behind the steps of the way of what it names
-pub record MadeByIndices (Indices : Making (List ℕ)) (scene : Scene) (lane : Lane) (current : List (Option ℕ)) (access : plain.Term) (of : Ref) (old new : Draft) (before after : Accesses) (n next v : ℕ) : Type 0 where
+pub record MadeByIndices (Indices : PartMaking (List ℕ)) (scene : Scene) (lane : Lane) (current : List (Option ℕ)) (access : plain.Term) (of : Ref) (old new : Draft) (before after : Accesses) (n next v : ℕ) : Type 0 where
   pub named : Draft
   pub middle : Draft
   pub between : Accesses
@@ -105,7 +105,7 @@ pub record MadeByIndices (Indices : Making (List ℕ)) (scene : Scene) (lane : L
   pub next_is : next ≡ number_behind aim.number
 
 -- an access behind its row
-pub record MadeByRow (Row : Making ℕ) (scene : Scene) (lane : Lane) (access : plain.Term) (memory : ℕ) (old new : Draft) (before after : Accesses) (n next v : ℕ) : Type 0 where
+pub record MadeByRow (Row : PartMaking ℕ) (scene : Scene) (lane : Lane) (access : plain.Term) (memory : ℕ) (old new : Draft) (before after : Accesses) (n next v : ℕ) : Type 0 where
   pub middle : Draft
   pub between : Accesses
   pub aim : Aim
@@ -118,7 +118,7 @@ pub record MadeByRow (Row : Making ℕ) (scene : Scene) (lane : Lane) (access : 
   pub next_is : next ≡ number_behind aim.number
 
 -- an operator behind its operands
-pub record MadeOfTwo (First Second : Making ℕ) (op : Op) (left right : plain.Term) (old new : Draft) (before after : Accesses) (n next v : ℕ) : Type 0 where
+pub record MadeOfTwo (First Second : PartMaking ℕ) (op : Op) (left right : plain.Term) (old new : Draft) (before after : Accesses) (n next v : ℕ) : Type 0 where
   pub middle : Draft
   pub end : Draft
   pub between : Accesses
@@ -130,7 +130,7 @@ pub record MadeOfTwo (First Second : Making ℕ) (op : Op) (left right : plain.T
   pub operation : MadeOperation op left right a b end new v
 
 -- a conversion behind its operand
-pub record MadeOfOne (Inner : Making ℕ) (inner : plain.Term) (to : Kind) (old new : Draft) (before after : Accesses) (n next v : ℕ) : Type 0 where
+pub record MadeOfOne (Inner : PartMaking ℕ) (inner : plain.Term) (to : Kind) (old new : Draft) (before after : Accesses) (n next v : ℕ) : Type 0 where
   pub middle : Draft
   pub a : ℕ
   pub operand : Inner old middle before after n next a
@@ -144,7 +144,7 @@ pub record MadeNone (old new : Draft) (before after : Accesses) (n next : ℕ) (
   pub none : values ≡ []
 
 -- an index, and those behind it
-pub record MadeThen (First : Making ℕ) (Rest : Making (List ℕ)) (old new : Draft) (before after : Accesses) (n next : ℕ) (values : List ℕ) : Type 0 where
+pub record MadeThen (First : PartMaking ℕ) (Rest : PartMaking (List ℕ)) (old new : Draft) (before after : Accesses) (n next : ℕ) (values : List ℕ) : Type 0 where
   pub middle : Draft
   pub between : Accesses
   pub own : ℕ
@@ -157,10 +157,10 @@ pub record MadeThen (First : Making ℕ) (Rest : Making (List ℕ)) (old new : D
 module _ (scene : Scene) (lane : Lane) (current : List (Option ℕ)) where
   abbrev mutual
     -- an expression whose accesses are numbered from n on
-    pub MadeTerm : plain.Term → Making ℕ
+    pub MadeTerm : plain.Term → PartMaking ℕ
     MadeTerm (plain.term place kind form) = MadeForm place kind form
 
-    pub MadeForm : Place → Option Kind → plain.TermForm → Making ℕ
+    pub MadeForm : Place → Option Kind → plain.TermForm → PartMaking ℕ
     MadeForm place kind (plain.number negative z) = MadeAlone (λ old new v. MadeNumber (kind_or_first kind) negative z old new v)
     MadeForm place kind (plain.truth_value b) = MadeAlone (λ old new v. Pushes old new v None (Constant (truth b)))
     MadeForm place kind (plain.named r) = MadeAlone (λ old new v. MadeVariable scene lane current (entity_number r.entity) (kind_or_first kind) old new v)
@@ -171,7 +171,7 @@ module _ (scene : Scene) (lane : Lane) (current : List (Option ℕ)) where
     MadeForm place kind (plain.applied op left right) = MadeOfTwo (MadeTerm left) (MadeTerm right) op left right
     MadeForm place kind (plain.converted inner to) = MadeOfOne (MadeTerm inner) inner to
 
-    pub MadeTerms : plain.Terms → Making (List ℕ)
+    pub MadeTerms : plain.Terms → PartMaking (List ℕ)
     MadeTerms plain.no_terms = MadeNone
     MadeTerms (plain.term_then t ts) = MadeThen (MadeTerm t) (MadeTerms ts)
 

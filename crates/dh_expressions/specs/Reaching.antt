@@ -104,7 +104,7 @@ ReadsAt scene lane old new before after access memory aim value =
     (target : Target) → HasTarget access target → ReadsElement scene lane (place_written access) (form_of access) memory aim target old new before after value
 
 -- the reading of an element of the memory that a name stands for, with the number of the next access
-pub record ReadsNext (scene : Scene) (lane : Lane) (old new : Draft) (before after : Accesses) (access : plain.Term) (of : Ref) (aim : Aim) (valued : Valued) : Type 0 where
+pub record ReadsNextElement (scene : Scene) (lane : Lane) (old new : Draft) (before after : Accesses) (access : plain.Term) (of : Ref) (aim : Aim) (valued : Valued) : Type 0 where
   pub next : valued.next ≡ min (aim.number + 1) (2 ^ 32 - 1)
   pub reads : ReadsAt scene lane old new before after access (memory_of (known_in scene) of) aim valued.value
 
@@ -117,7 +117,7 @@ pub record Tells (guard : Option ℕ) (old new : Draft) (before after : Accesses
   pub quiet : (v : View) → FitsStep v.step new → BlockBegun v.step old → fails_to_hold v.step guard → tale v.step new ≡ tale v.step old
 
 -- an access leads to the element that it names in the program
-pub record IsAimed (lane : Lane) (form : plain.TermForm) (memory : ℕ) (aim : Aim) (target : Target) (v : View) : Type 0 where
+pub record IsAimedAccess (lane : Lane) (form : plain.TermForm) (memory : ℕ) (aim : Aim) (target : Target) (v : View) : Type 0 where
   pub aims : AimsAt lane v aim target
   pub small : memory < 2 ^ 32
   pub bank : NamesSmallBank form
@@ -127,6 +127,6 @@ abbrev pub StoresAt : Scene → Lane → (old new : Draft) → (before after : A
 StoresAt scene lane old new before after access memory aim value =
     (target : Target) → HasTarget access target
     → Tells (lane_guard lane) old new before after (λ v. IsSited scene lane v memory aim.number (place_written access) (form_of access) true)
-    (λ v. IsAimed lane (form_of access) memory aim target v)
+    (λ v. IsAimedAccess lane (form_of access) memory aim target v)
     (λ v. write_made (reach_at (place_written access) memory aim.number) (lane_path lane) (word_shown v.step value).bits
     (spot_reached (begun_of v.step) v.variables (lane_path lane) (reach_at (place_written access) memory aim.number) target) ∷ [])

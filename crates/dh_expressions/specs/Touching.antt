@@ -9,7 +9,7 @@ use Rattle.dh_expressions.specs.declared.drafts.Draft.{Draft}
 use Rattle.dh_expressions.specs.declared.scenes.Around.{Around}
 use Rattle.dh_expressions.specs.declared.scenes.Scene.{Scene}
 use Rattle.dh_expressions.specs.Copying.{AddsAllCopies, AreCopies, AreNone, HasScopes}
-use Rattle.dh_expressions.specs.Drafted.{BlockBegun, Extends, FitsStep, Names, BlockStep, tale}
+use Rattle.dh_expressions.specs.Drafted.{BlockBegun, Extends, FitsStep, AddsRangeFault, BlockStep, tale}
 use Rattle.dh_expressions.specs.Noted.{has_no_operations, touched_in}
 use Rattle.dh_expressions.specs.Standings.{IsTouched, AccessStanding, copy_places, standing_at}
 use Rattle.dh_expressions.specs.Reaching.{place_written}
@@ -26,7 +26,7 @@ pub record MakesCopies (old new : Draft) (scene : Scene) (around : Around) (afte
 -- its fault is named, and its copies are made behind
 pub record AddsTouched (old new : Draft) (scene : Scene) (around : Around) (s : AccessStanding) (t : Touched) : Type 0 where
   pub middle : Draft
-  pub names : Names old middle t.fault s.place
+  pub names : AddsRangeFault old middle t.fault s.place
   pub copies : HasScopes scene → length around.levels.now < 2 ^ 63 → AddsAllCopies s.leader s.bank (copy_places s) s.guards middle new t.copies
 
 -- an access that has operations had them before, or is this one, of which no read gave anything
@@ -49,6 +49,6 @@ pub record TouchesAt (scene : Scene) (around : Around) (s : AccessStanding) (old
   pub known : (m : ℕ) (t : Touched) → touched_in after m ≡ Some t → (touched_in before m ≡ Some t) ⊎ IsNew old new scene around s number m t
   pub none : AreNone before.counts.items → AreNone after.counts.items
 
-abbrev pub Touches : Scene → Around → (memory : ℕ) → (access : Term) → (writes : Bool) → (old new : Draft) → (before after : Accesses) → (number : ℕ) → Type 0
-Touches scene around memory access writes old new before after number =
+abbrev pub TouchesAccess : Scene → Around → (memory : ℕ) → (access : Term) → (writes : Bool) → (old new : Draft) → (before after : Accesses) → (number : ℕ) → Type 0
+TouchesAccess scene around memory access writes old new before after number =
     TouchesAt scene around (standing_at scene around memory (place_written access) (form_of access) writes) old new before after number

@@ -4,7 +4,7 @@
 ghost use Rattle.std.specs.Prelude.{◌≡◌, ◌<◌, IfOk, OnOk, Some, length, slice_set};
 ghost use Rattle.dh_tree.specs.Seen.{term_seen};
 ghost use Rattle.dh_expressions.specs.Noted.{IsUntouched, Notes, copied_in, fault_in, given_in, given_then, has_no_operations, noted_in};
-ghost use Rattle.dh_expressions.specs.Touching.{Touches};
+ghost use Rattle.dh_expressions.specs.Touching.{TouchesAccess};
 
 use crate::copies::{AccessAt, copies_of};
 use crate::drafts::{Draft, name_fault};
@@ -76,7 +76,7 @@ pub fn touch(
     access: &Expr,
     writes: bool,
 ) -> Result<(), NoMemory>
-    ensures { OnOk result (Touches scene.now around.entry memory (term_seen access.now) writes
+    ensures { OnOk result (TouchesAccess scene.now around.entry memory (term_seen access.now) writes
         draft.old draft.new accesses.old accesses.new number) }
 {
     if !is_bare_at(accesses, number) {

@@ -5,7 +5,7 @@
 
 ghost use Rattle.std.specs.Prelude.{◌≡◌, ◌==◌, [], length, IfOk, OnOk};
 ghost use Rattle.dh_tree.specs.Seen.{form_seen};
-ghost use Rattle.dh_expressions.specs.Copying.{AddsCopy, Counts, JoinsGuards, JoinsLeader, MakesCopiesBy, banks_by, groups_by, leaders_by};
+ghost use Rattle.dh_expressions.specs.Copying.{AddsCopy, TellsCountedLevels, JoinsGuards, JoinsLeader, MakesCopiesBy, banks_by, groups_by, leaders_by};
 ghost use Rattle.dh_expressions.specs.Standings.{standing_at};
 ghost use Rattle.dh_expressions.specs.Touching.{MakesCopies};
 
@@ -42,7 +42,7 @@ fn counts_of(
     access: &Expr,
     writes: bool,
 ) -> Result<Vec<bool>, NoMemory>
-    ensures { IfOk result (λ counts. Counts scene.now levels (form_seen access.now.form) writes
+    ensures { IfOk result (λ counts. TellsCountedLevels scene.now levels (form_seen access.now.form) writes
         counts.items) }
 {
     let mut counts = Vec::new(scene.alloc);

@@ -5,7 +5,7 @@ ghost use Rattle.std.specs.Prelude.{◌≡◌, None, IfOk, if◌then◌else◌};
 ghost use Rattle.dh_value.specs.Operations.{binary_of, is_true};
 ghost use Rattle.dh_value.specs.Words.{value_of, word_of};
 ghost use Rattle.dh_plan.specs.declared.operations.OperationForm.TheVariants.{Constant, Old, Compute, Convert, Select, Set};
-ghost use Rattle.dh_expressions.specs.Drafted.{Computes, Names, Pushes, word_shown};
+ghost use Rattle.dh_expressions.specs.Drafted.{Computes, AddsRangeFault, Pushes, word_shown};
 ghost use Rattle.dh_expressions.specs.Shown.{register_as_begun};
 
 use crate::kinds::narrow;
@@ -85,7 +85,7 @@ pub fn push_set(draft: &mut Draft, register: u64, value: u64) -> Result<u64, NoM
 
 /// Names one more fault: an access at this place that is out of range. Gives its number.
 pub fn name_fault(draft: &mut Draft, place: Place) -> Result<u32, NoMemory>
-    ensures { IfOk result (λ n. Names draft.old draft.new n place) }
+    ensures { IfOk result (λ n. AddsRangeFault draft.old draft.new n place) }
 {
     let number = draft.faults.len();
     draft.faults.push((FaultKind::OutOfRange, place))?;

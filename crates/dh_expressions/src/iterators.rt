@@ -7,11 +7,10 @@ ghost use Rattle.dh_expressions.specs.Multiples.{AddsBit, IsCounterWidth, Multip
 ghost use Rattle.dh_expressions.specs.Evaluated.{GivesWhere, IsTurning, copy_in_turn, iterator_shown};
 
 use crate::drafts::{Draft, push_compute, push_constant, push_convert, push_old};
-use crate::kinds::literal;
 use crate::paths::last_copy;
 use crate::scenes::Lane;
 use dh_base::NoMemory;
-use dh_code::Held;
+use dh_code::{Held, literal};
 use dh_meaning::turn_count;
 use dh_tree::{Counter, Kind};
 use dh_value::Op;

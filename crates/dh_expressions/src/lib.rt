@@ -30,7 +30,7 @@ pub use drafts::{
 };
 pub use elements::{Aim, push_write};
 pub use iterators::counter_width;
-pub use kinds::{entity_of, extension, is_read, is_same, kind_found, literal, narrow, truth};
+pub use kinds::{is_read, narrow};
 pub use naming::{first_kept, memory_of};
 pub use paths::{Level, Paths, copy_at, inside, outside, rank_at};
 pub use scenes::{Around, Lane, Scene, Through, guard_at};

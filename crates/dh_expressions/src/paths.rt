@@ -2,7 +2,7 @@
 //! them in ascending order, and no list of paths is ever made.
 
 ghost use Rattle.std.specs.Prelude.{◌≡◌, ◌-◌, ◌^◌, [], min, IfOk};
-ghost use Rattle.dh_expressions.specs.Levels.{copy_number, count_inside, counted, last_number, leader_number, levels_inside, part_number, rank_number, spread_level};
+ghost use Rattle.dh_expressions.specs.Levels.{copy_number, count_inside, is_counted_level, last_number, leader_number, levels_inside, part_number, rank_number, spread_level};
 
 use dh_base::NoMemory;
 use std::alloc::Global;
@@ -138,7 +138,7 @@ fn leader_part(level: Level, counts: bool, number: u64) -> u64
 
 /// Whether a loop counts.
 fn counts_at(counts: &[bool], level: usize) -> bool
-    ensures { result ≡ counted counts.now level }
+    ensures { result ≡ is_counted_level counts.now level }
 {
     level < counts.len() && counts[level]
 }
@@ -146,7 +146,7 @@ fn counts_at(counts: &[bool], level: usize) -> bool
 /// The first path that has the copies of a path in the loops that count; never a later one than
 /// the path itself.
 pub fn leader_of(levels: &[Level], counts: &[bool], number: u64) -> u64
-    ensures { result ≡ leader_number levels.now (counted counts.now) number }
+    ensures { result ≡ leader_number levels.now (is_counted_level counts.now) number }
 {
     let mut leader: u64 = 0;
     for i in 0..levels.len() {

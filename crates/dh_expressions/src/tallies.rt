@@ -2,7 +2,7 @@
 
 ghost use Rattle.std.specs.Prelude.{◌≡◌, ◌==◌, [], if◌then◌else◌, IfOk, OnOk};
 ghost use Rattle.dh_events.specs.Tables.{table_at};
-ghost use Rattle.dh_expressions.specs.Counting.{PlacesNext, numbers_with, tally_in, tally_with};
+ghost use Rattle.dh_expressions.specs.Counting.{PlacesNextCopy, numbers_with, tally_in, tally_with};
 
 use crate::kinds::narrow;
 use dh_base::NoMemory;
@@ -107,7 +107,7 @@ pub fn place_next(
     bank: u32,
     leads: bool,
 ) -> Result<(Tally, u32), NoMemory>
-    ensures { IfOk result (λ r. PlacesNext tally group bank leads numbers.old.items
+    ensures { IfOk result (λ r. PlacesNextCopy tally group bank leads numbers.old.items
         numbers.new.items r.0 r.1) }
 {
     let same = is_group(tally, group);

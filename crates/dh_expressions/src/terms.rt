@@ -7,20 +7,20 @@ ghost use Rattle.dh_expressions.specs.Evaluated.{AimsByIndices, AimsByRow, AimsT
 ghost use Rattle.dh_expressions.specs.Drafted.{Gives, word_shown};
 ghost use Rattle.dh_expressions.specs.MadeTerms.{MadeIndices, MadeNext, MadeRow, MadeTerm, MadeThrough};
 ghost use Rattle.dh_expressions.specs.MadeValues.{MadeConverted, MadeExtended, MadeHeld, MadeLowestBit, MadeOperation, MadeVariable};
-ghost use Rattle.dh_expressions.specs.Reaching.{ReadsNext};
+ghost use Rattle.dh_expressions.specs.Reaching.{ReadsNextElement};
 ghost use Rattle.dh_expressions.specs.Shown.{applied_shown, conversion_shown, extended_shown, held_shown, is_kept, lowest_bit};
 
 use crate::accesses::Accesses;
 use crate::drafts::{Draft, push_compute, push_constant, push_convert};
 use crate::elements::{Aim, no_steps, push_read};
 use crate::iterators::push_iterator;
-use crate::kinds::{entity_of, extension, is_read, is_same, kind_found, literal, truth};
+use crate::kinds::is_read;
 use crate::naming::memory_of;
 use crate::passages::push_way;
 use crate::scenes::{Lane, Scene};
 use crate::variables::{push_shown, slot_at};
 use dh_base::{Items, NoMemory};
-use dh_code::place_of;
+use dh_code::{entity_of, extension, is_same, kind_found, literal, place_of, truth};
 use dh_tree::{Expr, ExprForm, Kind, Ref};
 use dh_value::Op;
 
@@ -141,7 +141,7 @@ fn push_element(
     of: &Ref,
     aim: &Aim,
 ) -> Result<Valued, NoMemory>
-    ensures means { IfOk result (λ r. ReadsNext scene.now lane.now draft.old draft.new accesses.old
+    ensures means { IfOk result (λ r. ReadsNextElement scene.now lane.now draft.old draft.new accesses.old
         accesses.new (term_seen access.now) of.now aim.now r) }
     ensures made { IfOk result (λ r. MadeNext scene.now lane.now (term_seen access.now) of.now
         aim.now draft.old draft.new accesses.old accesses.new r) }

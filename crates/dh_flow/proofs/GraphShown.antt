@@ -12,7 +12,7 @@ use Rattle.dh_plan.specs.PlanRuns.{over}
 use Rattle.dh_plan.specs.SeenGraphs.{OfFirst, IsWay, IsStop, IsJoin, IsFlowOf, FlowWithin, WayWithin, homes_of, parents_of, StaysInGroup, GroupsFit, IsGraphOf}
 use Rattle.dh_plan.specs.SoundPlans.{IsFormed}
 use Rattle.dh_plan.specs.Ways.{GraphWay, to_end, GraphStop}
-use Rattle.dh_flow.specs.PlainFlows.{Placed, Forked, way_in, states, groups, own_group, plan_states, plan_groups, stop_of, flow_of}
+use Rattle.dh_flow.specs.PlainFlows.{PlacedState, Forked, way_in_nodes, states, nodes_forked, own_group, plan_states, plan_groups, stop_of, flow_of}
 use Rattle.dh_flow.specs.ToldWays.{states_told, groups_told, state_told, group_told, placed_told, forked_told}
 use Rattle.dh_flow.proofs.PartsThere.{parts_are}
 use Rattle.dh_flow.proofs.PlacedLists.{at_place}
@@ -37,20 +37,20 @@ mapped_at v xs i y at = by (slice_get xs i) refl (sym (slice_get-map v xs i) ∙
 same_item : {A : Type 0} (x y : A) (o : Option A) → o ≡ Some x → o ≡ Some y → x ≡ y
 same_item x y o e f = let g : Some x ≡ Some y = sym e ∙ f in cc
 
-joins_by : (plan : PlainPlan) (ps : List Placed) (fs : List Forked) (parent : Option ℕ) (join : Option GraphWay) (w : GraphWay) → join ≡ Some w → JoinStays plan ps fs parent join → (o : ℕ) × ((parent ≡ Some o) × IsGood plan ps fs o w)
+joins_by : (plan : PlainPlan) (ps : List PlacedState) (fs : List Forked) (parent : Option ℕ) (join : Option GraphWay) (w : GraphWay) → join ≡ Some w → JoinStays plan ps fs parent join → (o : ℕ) × ((parent ≡ Some o) × IsGood plan ps fs o w)
 joins_by plan ps fs parent None w e s = absurd (let g : None ≡ Some w = e in cc)
 joins_by plan ps fs None (Some v) w e s = absurd s
 joins_by plan ps fs (Some o) (Some v) w e s =
     let same : v ≡ w = (let g : Some v ≡ Some w = e in cc) in
     (o, (refl, subst (λ x. IsGood plan ps fs o x) same s))
 
-join_group : (plan : PlainPlan) (ps : List Placed) (fs : List Forked) (parent : Option ℕ) (join : Option GraphWay) → JoinStays plan ps fs parent join → (o : ℕ) × ((w : GraphWay) → join ≡ Some w → IsGood plan ps fs o w)
+join_group : (plan : PlainPlan) (ps : List PlacedState) (fs : List Forked) (parent : Option ℕ) (join : Option GraphWay) → JoinStays plan ps fs parent join → (o : ℕ) × ((w : GraphWay) → join ≡ Some w → IsGood plan ps fs o w)
 join_group plan ps fs parent None s = (0, λ w e. absurd (let g : None ≡ Some w = e in cc))
 join_group plan ps fs None (Some v) s = absurd s
 join_group plan ps fs (Some o) (Some v) s = (o, λ w e. let same : v ≡ w = (let g : Some v ≡ Some w = e in cc) in subst (λ x. IsGood plan ps fs o x) same s)
 
 module _ (plan : PlainPlan) (g : Graph) (formed : IsFormed plan) (states_are : states_told g.states.items ≡ map placed_told (plan_states plan.body)) (groups_are : groups_told g.groups.items ≡ map forked_told (plan_groups plan.body)) where
-  abbrev ps : List Placed
+  abbrev ps : List PlacedState
   ps = plan_states plan.body
 
   abbrev fs : List Forked
@@ -71,8 +71,8 @@ module _ (plan : PlainPlan) (g : Graph) (formed : IsFormed plan) (states_are : s
   groups_count : length g.groups.items ≡ length fs
   groups_count = many group_told forked_told g.groups.items fs groups_are
 
-  stay : AllStay plan ps fs (states plan.body 0 1 0 to_end over) (groups plan.body 0 1 0 to_end over)
-  stay = nodes_stay plan ps fs plan.body 0 1 0 to_end over (parts_are plan formed) here (first_there (groups plan.body 0 1 0 to_end over)) tt
+  stay : AllStay plan ps fs (states plan.body 0 1 0 to_end over) (nodes_forked plan.body 0 1 0 to_end over)
+  stay = nodes_stay plan ps fs plan.body 0 1 0 to_end over (parts_are plan formed) here (first_there (nodes_forked plan.body 0 1 0 to_end over)) tt
     where
       first_there : (ys : List Forked) → 0 < suc (length ys)
       first_there ys = positive (length ys)
@@ -83,10 +83,10 @@ module _ (plan : PlainPlan) (g : Graph) (formed : IsFormed plan) (states_are : s
   all_groups : AllByRecursion (GroupStays plan ps fs) fs
   all_groups = (record { parent = tt; join = tt }, stay.1)
 
-  good_first : Good 0 (way_in plan.body 0 1 to_end)
+  good_first : Good 0 (way_in_nodes plan.body 0 1 to_end)
   good_first = way_good plan ps fs plan.body 0 1 0 to_end to_end over here tt
 
-  state_at : (i : ℕ) (p : Placed) → slice_get ps i ≡ Some p → StateStays plan ps fs p
+  state_at : (i : ℕ) (p : PlacedState) → slice_get ps i ≡ Some p → StateStays plan ps fs p
   state_at i p e = at_place (StateStays plan ps fs) ps i p stay.0 e
 
   group_at : (i : ℕ) (f : Forked) → slice_get fs i ≡ Some f → GroupStays plan ps fs f
@@ -105,11 +105,11 @@ module _ (plan : PlainPlan) (g : Graph) (formed : IsFormed plan) (states_are : s
         next = subst (λ w. IsWay g.groups.items s.next w) (ap (λ x. x.way) is) (is_way plan ps fs g.groups.items groups_are s.next p.item.way p.item.home (ap (λ t. t.way) p.same) (state_at i p.item p.there).way);
       }
 
-  first_shown : OfFirst (slice_get g.groups.items 0) (λ d. IsWay g.groups.items d (way_in plan.body 0 1 to_end))
+  first_shown : OfFirst (slice_get g.groups.items 0) (λ d. IsWay g.groups.items d (way_in_nodes plan.body 0 1 to_end))
   first_shown =
       let m = matches_at forked_told group_told fs g.groups.items 0 (own_group plan.body) (sym groups_are) refl in
-      subst (λ o. OfFirst o (λ d. IsWay g.groups.items d (way_in plan.body 0 1 to_end))) (sym m.there)
-      (is_way plan ps fs g.groups.items groups_are m.item.first (way_in plan.body 0 1 to_end) 0 (sym (ap (λ t. t.first) m.same)) good_first)
+      subst (λ o. OfFirst o (λ d. IsWay g.groups.items d (way_in_nodes plan.body 0 1 to_end))) (sym m.there)
+      (is_way plan ps fs g.groups.items groups_are m.item.first (way_in_nodes plan.body 0 1 to_end) 0 (sym (ap (λ t. t.first) m.same)) good_first)
 
   join_shown : (i : ℕ) (group : Group) (join : Option GraphWay) → slice_get g.groups.items i ≡ Some group → slice_get (map (λ f. f.join) fs) i ≡ Some join → IsJoin g.groups.items group.after join
   join_shown i group join at there =
@@ -140,7 +140,7 @@ module _ (plan : PlainPlan) (g : Graph) (formed : IsFormed plan) (states_are : s
         blocks = λ i s at.
             let m = mapped_at stop_of ps i s at in
             subst (λ (n : ℕ). n < length plan.blocks) (ap (λ x. x.block) m.same) (state_at i m.item m.there).block;
-        first = good_within plan ps fs (way_in plan.body 0 1 to_end) 0 (length (map stop_of ps)) stops good_first;
+        first = good_within plan ps fs (way_in_nodes plan.body 0 1 to_end) 0 (length (map stop_of ps)) stops good_first;
         states = λ i s at.
             let m = mapped_at stop_of ps i s at in
             subst (λ w. WayWithin (length (map stop_of ps)) (length plan.registers) w) (ap (λ x. x.way) m.same) (good_within plan ps fs m.item.way m.item.home (length (map stop_of ps)) stops (state_at i m.item m.there).way);
@@ -155,7 +155,7 @@ module _ (plan : PlainPlan) (g : Graph) (formed : IsFormed plan) (states_are : s
   homes_are : homes_of g ≡ map (λ p. p.home) ps
   homes_are = told_homes g.states.items ps states_are
     where
-      told_homes : (xs : List code.State) (ys : List Placed) → states_told xs ≡ map placed_told ys → map (λ s. s.group) xs ≡ map (λ p. p.home) ys
+      told_homes : (xs : List code.State) (ys : List PlacedState) → states_told xs ≡ map placed_told ys → map (λ s. s.group) xs ≡ map (λ p. p.home) ys
       told_homes [] [] e = refl
       told_homes [] (y ∷ ys) e = absurd (let f : [] ≡ placed_told y ∷ map placed_told ys = e in cc)
       told_homes (x ∷ xs) [] e = absurd (let f : state_told x ∷ states_told xs ≡ [] = e in cc)
@@ -186,11 +186,11 @@ module _ (plan : PlainPlan) (g : Graph) (formed : IsFormed plan) (states_are : s
   fits =
       record {
         own = ap (λ l. slice_get l 0) parents_same;
-        first = good_stays plan ps fs (homes_of g) (parents_of g) homes_are parents_same (way_in plan.body 0 1 to_end) 0 good_first;
+        first = good_stays plan ps fs (homes_of g) (parents_of g) homes_are parents_same (way_in_nodes plan.body 0 1 to_end) 0 good_first;
         states = λ i home s at there.
             let m = mapped_at stop_of ps i s there in
             let h = mapped_at (λ p. p.home) ps i home (sym (ap (λ l. slice_get l i) homes_are) ∙ at) in
-            let is : m.item.home ≡ home = ap (λ (p : Placed). p.home) (same_item m.item h.item (slice_get ps i) m.there h.there) ∙ h.same in
+            let is : m.item.home ≡ home = ap (λ (p : PlacedState). p.home) (same_item m.item h.item (slice_get ps i) m.there h.there) ∙ h.same in
             let stays = state_at i m.item m.there in (
               subst (λ (n : ℕ). home < n) (sym groups_count) (subst (λ (n : ℕ). n < length fs) is stays.home),
               subst (λ (n : ℕ). StaysInGroup (homes_of g) (parents_of g) n s.way) is

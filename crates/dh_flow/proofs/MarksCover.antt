@@ -6,7 +6,7 @@ use Rattle.dh_plan.specs.PlainPlans.{Node, block_node, turns_node, loop_node, ch
 use Rattle.dh_flow.specs.declared.measuring.Entry.{Entry}
 use Rattle.dh_flow.specs.declared.measuring.Entry.TheVariants.{Nothing, State, Threads}
 use Rattle.dh_flow.specs.declared.measuring.NodeMark.{NodeMark}
-use Rattle.dh_flow.specs.Footprints.{states_in, states_of, list_states, list_count, groups_in, groups_of, list_groups, lists_entry, entry_of, own_groups, footprint_of, list_mark, node_mark, told_behind, cut_entry, marks_of, inner_marks, lists_marks}
+use Rattle.dh_flow.specs.Footprints.{states_in, states_of, list_states, list_count, groups_in, node_groups, list_groups, lists_entry, nodes_entry, own_groups, footprint_of, list_mark, node_mark, told_behind, cut_entry, marks_of, inner_marks, lists_marks}
 
 joined : (xs inner : List NodeMark) (m : NodeMark) (s t g h : ℕ) → t + h ≤ length xs → s + g ≤ length inner + 1 → (s + t) + (g + h) ≤ length (xs ++ (inner ++ m ∷ []))
 joined xs inner m s t g h rest own =
@@ -41,9 +41,9 @@ mutual
   pub marks_cover : (ns : Nodes) → states_in ns + groups_in ns ≤ length (marks_of ns)
   marks_cover no_nodes = omega arith
   marks_cover (node_then n ns) =
-      joined (marks_of ns) (inner_marks n) (told_behind (node_mark n) (cut_entry (entry_of ns))) (states_of n) (states_in ns) (groups_of n) (groups_in ns) (marks_cover ns) (node_covered n)
+      joined (marks_of ns) (inner_marks n) (told_behind (node_mark n) (cut_entry (nodes_entry ns))) (states_of n) (states_in ns) (node_groups n) (groups_in ns) (marks_cover ns) (node_covered n)
 
-  node_covered : (n : Node) → states_of n + groups_of n ≤ length (inner_marks n) + 1
+  node_covered : (n : Node) → states_of n + node_groups n ≤ length (inner_marks n) + 1
   node_covered (block_node block) = omega arith
   node_covered (turns_node counter turns body) = by_turns (turns == 0) (marks_of body) (states_in body) (groups_in body) (marks_cover body)
   node_covered (loop_node test flag body) = more (states_in body) (groups_in body) (length (marks_of body)) (marks_cover body)

@@ -12,7 +12,7 @@ use Rattle.dh_flow.specs.declared.measuring.Entry.{Entry}
 use Rattle.dh_flow.specs.declared.measuring.Entry.TheVariants.{Nothing, State, Threads}
 use Rattle.dh_flow.specs.declared.measuring.Footprint.{Footprint}
 use Rattle.dh_flow.specs.declared.measuring.NodeMark.{NodeMark}
-use Rattle.dh_flow.specs.Footprints.{states_in, states_of, list_states, list_count, groups_in, groups_of, list_groups, entry_of, node_entry, lists_entry, entry_or, own_groups, fork_entry, cut, cut_entry, footprint, footprint_of, node_footprint, joined_footprint, tested_footprint, forked_by, forked_footprint, test_mark, list_mark, node_mark, told_behind, marks_of, inner_marks, lists_marks}
+use Rattle.dh_flow.specs.Footprints.{states_in, states_of, list_states, list_count, groups_in, node_groups, list_groups, nodes_entry, node_entry, lists_entry, entry_or, own_groups, fork_entry, cut, cut_entry, footprint, footprint_of, node_footprint, joined_footprint, tested_footprint, forked_by, forked_footprint, test_mark, list_mark, node_mark, told_behind, marks_of, inner_marks, lists_marks}
 use Rattle.dh_flow.specs.Measured.{all_lists_seen, Measures, MeasuresIn, MeasuresLists}
 use Rattle.dh_flow.proofs.NodeForms.{step_is, turns_is, choice_is, threads_is}
 
@@ -69,9 +69,9 @@ measures_then : (n : Node) (ns : Nodes) (old now mid new : List NodeMark) (whole
 measures_then n ns old now mid new whole e m inside left is h =
     record {
       footprints = is ∙ (ap (λ x. joined_footprint x whole) (ap (λ (x : NodeMark). x.own) inside.mark ∙ own_is n) ∙ (ap (λ x. joined_footprint (node_footprint n) x) h.footprints
-          ∙ joined_cut (states_of n) (states_in ns) (groups_of n) (groups_in ns) (node_entry n) (entry_of ns)));
-      marks = marks_joined old (marks_of ns) (inner_marks n) now mid new (told_behind m whole.entry) (told_behind (node_mark n) (cut_entry (entry_of ns))) h.marks inside.marks left
-          (mark_told m (node_mark n) whole.entry (cut_entry (entry_of ns)) inside.mark (ap (λ (x : Footprint). x.entry) h.footprints));
+          ∙ joined_cut (states_of n) (states_in ns) (node_groups n) (groups_in ns) (node_entry n) (nodes_entry ns)));
+      marks = marks_joined old (marks_of ns) (inner_marks n) now mid new (told_behind m whole.entry) (told_behind (node_mark n) (cut_entry (nodes_entry ns))) h.marks inside.marks left
+          (mark_told m (node_mark n) whole.entry (cut_entry (nodes_entry ns)) inside.mark (ap (λ (x : Footprint). x.entry) h.footprints));
     }
 
 back : (i : ℕ) → 0 < i → i - 1 + 1 ≡ i
@@ -127,10 +127,10 @@ choice_inside node test flag chosen other xs ys e f m old mid new is xs_is ys_is
     let seen : node_seen node ≡ choice_node test flag a b =
     ap node_seen is ∙ (choice_is test flag chosen other ∙ (ap (λ x. choice_node test flag (nodes_seen x) (nodes_seen other.items)) (sym xs_is) ∙ ap (λ y. choice_node test flag a (nodes_seen y)) (sym ys_is))) in
     let own : tested_footprint (joined_footprint (footprint_of a) (footprint_of b)) ≡ node_footprint (choice_node test flag a b) =
-    ap tested_footprint (joined_cut (states_in a) (states_in b) (groups_in a) (groups_in b) (entry_of a) (entry_of b)) ∙ tested_cut (states_in a + states_in b) (groups_in a + groups_in b) (entry_or (entry_of a) (entry_of b)) in
+    ap tested_footprint (joined_cut (states_in a) (states_in b) (groups_in a) (groups_in b) (nodes_entry a) (nodes_entry b)) ∙ tested_cut (states_in a + states_in b) (groups_in a + groups_in b) (entry_or (nodes_entry a) (nodes_entry b)) in
     let marked : m ≡ node_mark (choice_node test flag a b) =
     m_is ∙ (ap (λ x. test_mark (tested_footprint (joined_footprint x f)) x f.entry) first.footprints ∙ (ap (λ y. test_mark (tested_footprint (joined_footprint (footprint_of a) y)) (footprint_of a) y.entry) second.footprints
-    ∙ ap (λ o. test_mark o (footprint_of a) (cut_entry (entry_of b))) own)) in
+    ∙ ap (λ o. test_mark o (footprint_of a) (cut_entry (nodes_entry b))) own)) in
     subst (λ n. MeasuresIn n old new m) (sym seen)
     (record { mark = marked; marks = first.marks ∙ (ap (λ x. x ++ marks_of a) second.marks ∙ append_assoc old (marks_of b) (marks_of a)) })
 
@@ -168,7 +168,7 @@ lists_turn vs i j v xs old now mid new whole one e m some within at xs_is done i
     let m_as : m ≡ list_mark (footprint_of ns) = m_is ∙ ap list_mark measured.footprints in
     subst (λ l. MeasuresLists l old new e) (sym (lists_at vs i v some within at)) (record {
       footprints = is ∙ (ap (λ (x : NodeMark). joined_footprint x.own whole) m_as ∙ (ap (λ x. joined_footprint (footprint_of ns) x) h.footprints
-          ∙ joined_cut (states_in ns) (list_states ls) (groups_in ns) (list_groups ls) (entry_of ns) (lists_entry ls)));
+          ∙ joined_cut (states_in ns) (list_states ls) (groups_in ns) (list_groups ls) (nodes_entry ns) (lists_entry ls)));
       marks = marks_joined old (lists_marks ls) (marks_of ns) now mid new (told_behind m whole.entry) (told_behind (list_mark (footprint_of ns)) (cut_entry (lists_entry ls))) h.marks measured.marks left
           (mark_told m (list_mark (footprint_of ns)) whole.entry (cut_entry (lists_entry ls)) m_as (ap (λ (x : Footprint). x.entry) h.footprints));
     })

@@ -8,8 +8,8 @@ use Rattle.dh_plan.specs.PlanRuns.{PlanTodo, over, nodes_then, turn_then, again_
 use Rattle.dh_plan.specs.Ways.{GraphWay, to_state, to_end}
 use Rattle.dh_flow.specs.declared.measuring.Entry.{Entry}
 use Rattle.dh_flow.specs.declared.measuring.Entry.TheVariants.{Nothing, State, Threads}
-use Rattle.dh_flow.specs.Footprints.{states_in, states_of, list_states, groups_in, groups_of, list_groups, list_count, own_groups, entry_of, node_entry, lists_entry, entry_or, fork_entry}
-use Rattle.dh_flow.specs.PlainFlows.{way_in, turn_way, states, node_placed, list_placed, begun, begun_if, groups, node_forked, list_forked}
+use Rattle.dh_flow.specs.Footprints.{states_in, states_of, list_states, groups_in, node_groups, list_groups, list_count, own_groups, nodes_entry, node_entry, lists_entry, entry_or, fork_entry}
+use Rattle.dh_flow.specs.PlainFlows.{way_in_nodes, turn_way, states, node_placed, list_placed, begun_groups, begun_if, nodes_forked, node_forked, list_forked}
 
 pub record Sits {A : Type 0} (xs whole : List A) (a : ℕ) : Type 0 where
   pub found : (i j : ℕ) (x : A) → j ≡ a + i → slice_get xs i ≡ Some x → slice_get whole j ≡ Some x
@@ -84,8 +84,8 @@ mutual
   pub states_length : (ns : Nodes) (a g o : ℕ) (w : GraphWay) (k : PlanTodo) → length (states ns a g o w k) ≡ states_in ns
   states_length no_nodes a g o w k = refl
   states_length (node_then n ns) a g o w k =
-      both_lengths (node_placed n a g o (way_in ns (a + states_of n) (g + groups_of n) w) (nodes_then ns k)) (states ns (a + states_of n) (g + groups_of n) o w k) (states_of n) (states_in ns)
-      (placed_length n a g o (way_in ns (a + states_of n) (g + groups_of n) w) (nodes_then ns k)) (states_length ns (a + states_of n) (g + groups_of n) o w k)
+      both_lengths (node_placed n a g o (way_in_nodes ns (a + states_of n) (g + node_groups n) w) (nodes_then ns k)) (states ns (a + states_of n) (g + node_groups n) o w k) (states_of n) (states_in ns)
+      (placed_length n a g o (way_in_nodes ns (a + states_of n) (g + node_groups n) w) (nodes_then ns k)) (states_length ns (a + states_of n) (g + node_groups n) o w k)
 
   pub placed_length : (n : Node) (a g o : ℕ) (w : GraphWay) (k : PlanTodo) → length (node_placed n a g o w k) ≡ states_of n
   placed_length (block_node block) a g o w k = refl
@@ -102,9 +102,9 @@ mutual
   lists_length (list_then ns lists) a g o =
       both_lengths (states ns a g o to_end over) (list_placed lists (a + states_in ns) (g + groups_in ns) (o + 1)) (states_in ns) (list_states lists) (states_length ns a g o to_end over) (lists_length lists (a + states_in ns) (g + groups_in ns) (o + 1))
 
-begun_length : (lists : NodeLists) (a g o : ℕ) (join : Option GraphWay) (k : PlanTodo) → length (begun lists a g o join k) ≡ list_count lists
+begun_length : (lists : NodeLists) (a g o : ℕ) (join : Option GraphWay) (k : PlanTodo) → length (begun_groups lists a g o join k) ≡ list_count lists
 begun_length no_lists a g o join k = refl
-begun_length (list_then ns lists) a g o join k = one_more (begun lists (a + states_in ns) (g + groups_in ns) o None over) (list_count lists) (begun_length lists (a + states_in ns) (g + groups_in ns) o None over)
+begun_length (list_then ns lists) a g o join k = one_more (begun_groups lists (a + states_in ns) (g + groups_in ns) o None over) (list_count lists) (begun_length lists (a + states_in ns) (g + groups_in ns) o None over)
 
 pub begun_if_length : (e : Entry) (lists : NodeLists) (a g o : ℕ) (join : Option GraphWay) (k : PlanTodo) → length (begun_if e lists a g o join k) ≡ own_groups e (list_count lists)
 begun_if_length Nothing lists a g o join k = refl
@@ -112,26 +112,26 @@ begun_if_length State lists a g o join k = begun_length lists a g o join k
 begun_if_length (Threads nested count) lists a g o join k = begun_length lists a g o join k
 
 mutual
-  pub groups_length : (ns : Nodes) (a g o : ℕ) (w : GraphWay) (k : PlanTodo) → length (groups ns a g o w k) ≡ groups_in ns
+  pub groups_length : (ns : Nodes) (a g o : ℕ) (w : GraphWay) (k : PlanTodo) → length (nodes_forked ns a g o w k) ≡ groups_in ns
   groups_length no_nodes a g o w k = refl
   groups_length (node_then n ns) a g o w k =
-      both_lengths (node_forked n a g o (way_in ns (a + states_of n) (g + groups_of n) w) (nodes_then ns k)) (groups ns (a + states_of n) (g + groups_of n) o w k) (groups_of n) (groups_in ns)
-      (forked_length n a g o (way_in ns (a + states_of n) (g + groups_of n) w) (nodes_then ns k)) (groups_length ns (a + states_of n) (g + groups_of n) o w k)
+      both_lengths (node_forked n a g o (way_in_nodes ns (a + states_of n) (g + node_groups n) w) (nodes_then ns k)) (nodes_forked ns (a + states_of n) (g + node_groups n) o w k) (node_groups n) (groups_in ns)
+      (forked_length n a g o (way_in_nodes ns (a + states_of n) (g + node_groups n) w) (nodes_then ns k)) (groups_length ns (a + states_of n) (g + node_groups n) o w k)
 
-  pub forked_length : (n : Node) (a g o : ℕ) (w : GraphWay) (k : PlanTodo) → length (node_forked n a g o w k) ≡ groups_of n
+  pub forked_length : (n : Node) (a g o : ℕ) (w : GraphWay) (k : PlanTodo) → length (node_forked n a g o w k) ≡ node_groups n
   forked_length (block_node block) a g o w k = refl
   forked_length (turns_node counter turns body) a g o w k =
-      list_by (turns == 0) (groups body a g o (turn_way counter turns body a g w) (turn_then counter turns body k)) (groups_in body) (groups_length body a g o (turn_way counter turns body a g w) (turn_then counter turns body k))
+      list_by (turns == 0) (nodes_forked body a g o (turn_way counter turns body a g w) (turn_then counter turns body k)) (groups_in body) (groups_length body a g o (turn_way counter turns body a g w) (turn_then counter turns body k))
   forked_length (loop_node test flag body) a g o w k = groups_length body (a + 1) g o (to_state a) (again_then test flag body k)
   forked_length (choice_node test flag chosen other) a g o w k =
-      both_lengths (groups chosen (a + 1) g o w k) (groups other (a + 1 + states_in chosen) (g + groups_in chosen) o w k) (groups_in chosen) (groups_in other) (groups_length chosen (a + 1) g o w k) (groups_length other (a + 1 + states_in chosen) (g + groups_in chosen) o w k)
+      both_lengths (nodes_forked chosen (a + 1) g o w k) (nodes_forked other (a + 1 + states_in chosen) (g + groups_in chosen) o w k) (groups_in chosen) (groups_in other) (groups_length chosen (a + 1) g o w k) (groups_length other (a + 1 + states_in chosen) (g + groups_in chosen) o w k)
   forked_length (threads_node lists) a g o w k =
       both_lengths (list_forked lists a g (g + list_groups lists)) (begun_if (lists_entry lists) lists a g o (Some w) k) (list_groups lists) (own_groups (lists_entry lists) (list_count lists)) (nested_length lists a g (g + list_groups lists)) (begun_if_length (lists_entry lists) lists a g o (Some w) k)
 
   pub nested_length : (lists : NodeLists) (a g o : ℕ) → length (list_forked lists a g o) ≡ list_groups lists
   nested_length no_lists a g o = refl
   nested_length (list_then ns lists) a g o =
-      both_lengths (groups ns a g o to_end over) (list_forked lists (a + states_in ns) (g + groups_in ns) (o + 1)) (groups_in ns) (list_groups lists) (groups_length ns a g o to_end over) (nested_length lists (a + states_in ns) (g + groups_in ns) (o + 1))
+      both_lengths (nodes_forked ns a g o to_end over) (list_forked lists (a + states_in ns) (g + groups_in ns) (o + 1)) (groups_in ns) (list_groups lists) (groups_length ns a g o to_end over) (nested_length lists (a + states_in ns) (g + groups_in ns) (o + 1))
 
 -- What does no block takes nothing.
 
@@ -158,17 +158,17 @@ own_none State count is = absurd (cc)
 own_none (Threads m c) count is = absurd (cc)
 
 mutual
-  pub nodes_none : (ns : Nodes) → entry_of ns ≡ Nothing → (states_in ns ≡ 0) × (groups_in ns ≡ 0)
+  pub nodes_none : (ns : Nodes) → nodes_entry ns ≡ Nothing → (states_in ns ≡ 0) × (groups_in ns ≡ 0)
   nodes_none no_nodes is = (refl, refl)
   nodes_none (node_then n ns) is =
-      let both = none_of (node_entry n) (entry_of ns) is in
+      let both = none_of (node_entry n) (nodes_entry ns) is in
       let first = node_none n both.0 in
       let rest = nodes_none ns both.1 in
-      (sum_none (states_of n) (states_in ns) first.0 rest.0, sum_none (groups_of n) (groups_in ns) first.1 rest.1)
+      (sum_none (states_of n) (states_in ns) first.0 rest.0, sum_none (node_groups n) (groups_in ns) first.1 rest.1)
 
-  pub node_none : (n : Node) → node_entry n ≡ Nothing → (states_of n ≡ 0) × (groups_of n ≡ 0)
+  pub node_none : (n : Node) → node_entry n ≡ Nothing → (states_of n ≡ 0) × (node_groups n ≡ 0)
   node_none (block_node block) is = absurd (cc)
-  node_none (turns_node counter turns body) is = none_by (turns == 0) (entry_of body) (states_in body) (groups_in body) (nodes_none body) is
+  node_none (turns_node counter turns body) is = none_by (turns == 0) (nodes_entry body) (states_in body) (groups_in body) (nodes_none body) is
   node_none (loop_node test flag body) is = absurd (cc)
   node_none (choice_node test flag chosen other) is = absurd (cc)
   node_none (threads_node lists) is =
@@ -179,7 +179,7 @@ mutual
   pub lists_none : (lists : NodeLists) → lists_entry lists ≡ Nothing → (list_states lists ≡ 0) × (list_groups lists ≡ 0)
   lists_none no_lists is = (refl, refl)
   lists_none (list_then ns lists) is =
-      let both = none_of (entry_of ns) (lists_entry lists) is in
+      let both = none_of (nodes_entry ns) (lists_entry lists) is in
       let first = nodes_none ns both.0 in
       let rest = lists_none lists both.1 in
       (sum_none (states_in ns) (list_states lists) first.0 rest.0, sum_none (groups_in ns) (list_groups lists) first.1 rest.1)

@@ -6,12 +6,12 @@ use Rattle.dh_value.specs.declared.kinds.Kind.{Kind}
 use Rattle.dh_plan.specs.PlainPlans.{PlainPlan}
 use Rattle.dh_plan.specs.PlanRuns.{over, plan_next, ended, plan_next_of}
 use Rattle.dh_plan.specs.Ways.{to_end, FlowsAs, way_of_stop, way_of_join}
-use Rattle.dh_flow.specs.PlainFlows.{Placed, Forked, groups, own_group, plan_states, plan_groups, stop_of, flow_of}
+use Rattle.dh_flow.specs.PlainFlows.{PlacedState, Forked, nodes_forked, own_group, plan_states, plan_groups, stop_of, flow_of}
 use Rattle.dh_flow.proofs.PlacedLists.{sits_whole, at_place}
 use Rattle.dh_flow.proofs.WaysDo.{behind_of, after_of, to_come, to_join, leads, Here, StateDoes, JoinDoes, enters, nodes_do}
 
-module _ (kinds : List Kind) (ps : List Placed) (fs : List Forked) where
-  state_does : (o : Option Placed) → ((p : Placed) → o ≡ Some p → StateDoes kinds ps fs p) → (registers : List ℕ) → leads kinds ps fs (way_of_stop (option_map stop_of o)) registers ≡ plan_next_of kinds (behind_of o) registers
+module _ (kinds : List Kind) (ps : List PlacedState) (fs : List Forked) where
+  state_does : (o : Option PlacedState) → ((p : PlacedState) → o ≡ Some p → StateDoes kinds ps fs p) → (registers : List ℕ) → leads kinds ps fs (way_of_stop (option_map stop_of o)) registers ≡ plan_next_of kinds (behind_of o) registers
   state_does None so registers = refl
   state_does (Some p) so registers = so p refl registers
 
@@ -26,7 +26,7 @@ second y ys i (suc j) x e at = subst (λ (n : ℕ). slice_get ys n ≡ Some x) (
 -- all of it sits there
 pub here_whole : (plan : PlainPlan) → Here plan.registers (plan_states plan.body) (plan_groups plan.body) plan.body 0 1 0 to_end over
 here_whole plan =
-    let fs = groups plan.body 0 1 0 to_end over in
+    let fs = nodes_forked plan.body 0 1 0 to_end over in
     (sits_whole (plan_states plan.body), record { found = λ i j x e at. second (own_group plan.body) fs i j x e at })
 
 pub flow_does : (plan : PlainPlan) → FlowsAs (flow_of plan.body) plan

@@ -13,10 +13,10 @@ use Rattle.dh_plan.specs.PlanRuns.{PlanTodo, over, nodes_then, turn_then, again_
 use Rattle.dh_plan.specs.Ways.{GraphWay, to_state, by_flag, by_count, to_fork, to_end}
 use Rattle.dh_flow.specs.declared.measuring.Entry.{Entry}
 use Rattle.dh_flow.specs.declared.measuring.Entry.TheVariants.{Nothing, State as at_state, Threads}
-use Rattle.dh_flow.specs.Footprints.{states_in, states_of, groups_in, groups_of, node_entry}
-use Rattle.dh_flow.specs.PlainFlows.{way_or, way_in, way_in_node, Placed, Forked, turn_way, states, node_placed, groups, node_forked, plan_states, own_group, plan_groups}
+use Rattle.dh_flow.specs.Footprints.{states_in, states_of, groups_in, node_groups, node_entry}
+use Rattle.dh_flow.specs.PlainFlows.{way_or, way_in_nodes, way_in_node, PlacedState, Forked, turn_way, states, node_placed, nodes_forked, node_forked, plan_states, own_group, plan_groups}
 use Rattle.dh_flow.specs.StraightGraphs.{IsOneThread, NodeIsOneThread, DoesNotFork, NeverForks}
-use Rattle.dh_flow.specs.ToldWays.{Told, told_go, told_test, told_count, told_fork, told_rest, decision_told, told, group_told, states_told, groups_told, placed_told, forked_told}
+use Rattle.dh_flow.specs.ToldWays.{ToldWay, told_go, told_test, told_count, told_fork, told_rest, decision_told, graph_way_told, group_told, states_told, groups_told, placed_told, forked_told}
 
 -- Plain ways.
 
@@ -33,10 +33,10 @@ either_straight at_state x y h k = h
 either_straight (Threads nested count) x y h k = h
 
 mutual
-  into_straight : (ns : Nodes) (a g : ℕ) (w : GraphWay) → IsOneThread ns → GoesStraight w → GoesStraight (way_in ns a g w)
+  into_straight : (ns : Nodes) (a g : ℕ) (w : GraphWay) → IsOneThread ns → GoesStraight w → GoesStraight (way_in_nodes ns a g w)
   into_straight no_nodes a g w h k = k
   into_straight (node_then n ns) a g w h k =
-      either_straight (node_entry n) (way_in_node n a g) (way_in ns a g w) (into_node n a g h.0) (into_straight ns a g w h.1 k)
+      either_straight (node_entry n) (way_in_node n a g) (way_in_nodes ns a g w) (into_node n a g h.0) (into_straight ns a g w h.1 k)
 
   into_node : (n : Node) (a g : ℕ) → NodeIsOneThread n → GoesStraight (way_in_node n a g)
   into_node (block_node block) a g h = tt
@@ -45,14 +45,14 @@ mutual
   into_node (choice_node test flag chosen other) a g h = tt
   into_node (threads_node lists) a g h = absurd h
 
-abbrev AreStraight : List Placed → Type 0
-AreStraight ps = AllByRecursion (λ (p : Placed). GoesStraight p.way) ps
+abbrev AreStraight : List PlacedState → Type 0
+AreStraight ps = AllByRecursion (λ (p : PlacedState). GoesStraight p.way) ps
 
-both_straight : (ps qs : List Placed) → AreStraight ps → AreStraight qs → AreStraight (ps ++ qs)
+both_straight : (ps qs : List PlacedState) → AreStraight ps → AreStraight qs → AreStraight (ps ++ qs)
 both_straight [] qs h k = k
 both_straight (p ∷ ps) qs h k = (h.0, both_straight ps qs h.1 k)
 
-unless_straight : (b : Bool) (ps : List Placed) → AreStraight ps → AreStraight (if b then [] else ps)
+unless_straight : (b : Bool) (ps : List PlacedState) → AreStraight ps → AreStraight (if b then [] else ps)
 unless_straight true ps h = tt
 unless_straight false ps h = h
 
@@ -61,9 +61,9 @@ mutual
   states_straight no_nodes a g o w k h f = tt
   states_straight (node_then n ns) a g o w k h f =
       let a' = a + states_of n in
-      let g' = g + groups_of n in
-      both_straight (node_placed n a g o (way_in ns a' g' w) (nodes_then ns k)) (states ns a' g' o w k)
-      (node_straight n a g o (way_in ns a' g' w) (nodes_then ns k) h.0 (into_straight ns a' g' w h.1 f)) (states_straight ns a' g' o w k h.1 f)
+      let g' = g + node_groups n in
+      both_straight (node_placed n a g o (way_in_nodes ns a' g' w) (nodes_then ns k)) (states ns a' g' o w k)
+      (node_straight n a g o (way_in_nodes ns a' g' w) (nodes_then ns k) h.0 (into_straight ns a' g' w h.1 f)) (states_straight ns a' g' o w k h.1 f)
 
   node_straight : (n : Node) (a g o : ℕ) (w : GraphWay) (k : PlanTodo) → NodeIsOneThread n → GoesStraight w → AreStraight (node_placed n a g o w k)
   node_straight (block_node block) a g o w k h f = (f, tt)
@@ -89,35 +89,35 @@ both_none : (fs gs : List Forked) → fs ≡ [] → gs ≡ [] → fs ++ gs ≡ [
 both_none fs gs e f = ap (λ xs. xs ++ gs) e ∙ f
 
 mutual
-  no_groups : (ns : Nodes) (a g o : ℕ) (w : GraphWay) (k : PlanTodo) → IsOneThread ns → groups ns a g o w k ≡ []
+  no_groups : (ns : Nodes) (a g o : ℕ) (w : GraphWay) (k : PlanTodo) → IsOneThread ns → nodes_forked ns a g o w k ≡ []
   no_groups no_nodes a g o w k h = refl
   no_groups (node_then n ns) a g o w k h =
       let a' = a + states_of n in
-      let g' = g + groups_of n in
-      both_none (node_forked n a g o (way_in ns a' g' w) (nodes_then ns k)) (groups ns a' g' o w k) (node_no_groups n a g o (way_in ns a' g' w) (nodes_then ns k) h.0) (no_groups ns a' g' o w k h.1)
+      let g' = g + node_groups n in
+      both_none (node_forked n a g o (way_in_nodes ns a' g' w) (nodes_then ns k)) (nodes_forked ns a' g' o w k) (node_no_groups n a g o (way_in_nodes ns a' g' w) (nodes_then ns k) h.0) (no_groups ns a' g' o w k h.1)
 
   node_no_groups : (n : Node) (a g o : ℕ) (w : GraphWay) (k : PlanTodo) → NodeIsOneThread n → node_forked n a g o w k ≡ []
   node_no_groups (block_node block) a g o w k h = refl
   node_no_groups (turns_node counter turns body) a g o w k h =
-      unless_none (turns == 0) (groups body a g o (turn_way counter turns body a g w) (turn_then counter turns body k))
+      unless_none (turns == 0) (nodes_forked body a g o (turn_way counter turns body a g w) (turn_then counter turns body k))
       (no_groups body a g o (turn_way counter turns body a g w) (turn_then counter turns body k) h)
   node_no_groups (loop_node test flag body) a g o w k h = no_groups body (a + 1) g o (to_state a) (again_then test flag body k) h
   node_no_groups (choice_node test flag chosen other) a g o w k h =
       let b = a + 1 + states_in chosen in
       let g' = g + groups_in chosen in
-      both_none (groups chosen (a + 1) g o w k) (groups other b g' o w k) (no_groups chosen (a + 1) g o w k h.0) (no_groups other b g' o w k h.1)
+      both_none (nodes_forked chosen (a + 1) g o w k) (nodes_forked other b g' o w k) (no_groups chosen (a + 1) g o w k h.0) (no_groups other b g' o w k h.1)
   node_no_groups (threads_node lists) a g o w k h = absurd h
 
 -- What is told of ways.
 
-abbrev TellsStraight : Told → Type 0
+abbrev TellsStraight : ToldWay → Type 0
 TellsStraight (told_go state) = Unit {0}
 TellsStraight (told_test flag s t) = TellsStraight s × TellsStraight t
 TellsStraight (told_count counter last s t) = TellsStraight s × TellsStraight t
-TellsStraight (told_fork groups) = ⊥
+TellsStraight (told_fork nodes_forked) = ⊥
 TellsStraight told_rest = Unit {0}
 
-told_straight : (w : GraphWay) → GoesStraight w → TellsStraight (told w)
+told_straight : (w : GraphWay) → GoesStraight w → TellsStraight (graph_way_told w)
 told_straight (to_state state) h = tt
 told_straight (by_flag flag w v) h = (told_straight w h.0, told_straight v h.1)
 told_straight (by_count counter last w v) h = (told_straight w h.0, told_straight v h.1)
@@ -132,7 +132,7 @@ decision_straight (Count' counter last at a at' b) h = (decision_straight a h.0,
 decision_straight (Fork forked) h = absurd h
 decision_straight Rest h = tt
 
-told_states : (ps : List Placed) → AreStraight ps → AllByRecursion (λ t. TellsStraight t.way) (map placed_told ps)
+told_states : (ps : List PlacedState) → AreStraight ps → AllByRecursion (λ t. TellsStraight t.way) (map placed_told ps)
 told_states [] h = tt
 told_states (p ∷ ps) h = (told_straight p.way h.0, told_states ps h.1)
 
@@ -151,6 +151,6 @@ never_forks plan g states_are groups_are one =
     let own : groups_told g.groups.items ≡ forked_told (own_group ns) ∷ [] = groups_are ∙ ap (λ fs. forked_told (own_group ns) ∷ map forked_told fs) (no_groups ns 0 1 0 to_end over one) in
     record {
       states = code_states g.states.items (subst (λ ts. AllByRecursion (λ t. TellsStraight t.way) ts) (sym states_are) (told_states (plan_states ns) (states_straight ns 0 1 0 to_end over one tt)));
-      groups = code_groups g.groups.items (subst (λ ts. AllByRecursion (λ t. TellsStraight t.first) ts) (sym own) (told_straight (way_in ns 0 1 to_end) (into_straight ns 0 1 to_end one tt), tt));
+      groups = code_groups g.groups.items (subst (λ ts. AllByRecursion (λ t. TellsStraight t.first) ts) (sym own) (told_straight (way_in_nodes ns 0 1 to_end) (into_straight ns 0 1 to_end one tt), tt));
       alone = sym (length-map g.groups.items group_told) ∙ ap (λ ts. length ts) own;
     }

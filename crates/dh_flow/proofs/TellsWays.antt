@@ -9,9 +9,9 @@ use Rattle.dh_ways.specs.HiddenVariables.{numbers_from}
 use Rattle.dh_plan.specs.Ways.{GraphWay, to_end}
 use Rattle.dh_flow.specs.declared.measuring.Entry.{Entry}
 use Rattle.dh_flow.specs.declared.measuring.Entry.TheVariants.{Nothing, State, Threads}
-use Rattle.dh_flow.specs.Footprints.{states_in, groups_in, groups_of, list_groups, list_count, entry_of, node_entry, lists_entry, entry_or, own_groups, fork_entry, cut, cut_entry}
-use Rattle.dh_flow.specs.PlainFlows.{way_or, way_in, way_in_node, ways_in}
-use Rattle.dh_flow.specs.ToldWays.{Told, told_fork, told, cut_numbers, told_entry}
+use Rattle.dh_flow.specs.Footprints.{states_in, groups_in, node_groups, list_groups, list_count, nodes_entry, node_entry, lists_entry, entry_or, own_groups, fork_entry, cut, cut_entry}
+use Rattle.dh_flow.specs.PlainFlows.{way_or, way_in_nodes, way_in_node, ways_in}
+use Rattle.dh_flow.specs.ToldWays.{ToldWay, told_fork, graph_way_told, cut_numbers, told_entry}
 use Rattle.dh_flow.specs.GraphWalks.{cut_sum}
 use Rattle.dh_flow.proofs.PlacedLists.{Begins}
 
@@ -58,20 +58,20 @@ count_is (list_then ns lists) a g = more (way_count (ways_in lists (a + states_i
     more : (m n : ℕ) → m ≡ n → suc m ≡ n + 1
     more m n e = omega (arith, e)
 
-tells_by : (e f : Entry) (x y : GraphWay) (a g : ℕ) (t : Told) → (Begins e → told x ≡ told_entry (cut_entry e) a g t) → told y ≡ told_entry (cut_entry f) a g t → told (way_or e x y) ≡ told_entry (cut_entry (entry_or e f)) a g t
+tells_by : (e f : Entry) (x y : GraphWay) (a g : ℕ) (t : ToldWay) → (Begins e → graph_way_told x ≡ told_entry (cut_entry e) a g t) → graph_way_told y ≡ told_entry (cut_entry f) a g t → graph_way_told (way_or e x y) ≡ told_entry (cut_entry (entry_or e f)) a g t
 tells_by Nothing f x y a g t one two = two
 tells_by State f x y a g t one two = one tt
 tells_by (Threads nested count) f x y a g t one two = one tt
 
-any_past : (e : Entry) (a g : ℕ) (t u : Told) → Begins e → told_entry (cut_entry e) a g t ≡ told_entry (cut_entry e) a g u
+any_past : (e : Entry) (a g : ℕ) (t u : ToldWay) → Begins e → told_entry (cut_entry e) a g t ≡ told_entry (cut_entry e) a g u
 any_past Nothing a g t u b = absurd b
 any_past State a g t u b = refl
 any_past (Threads nested count) a g t u b = refl
 
-tells_turns : (b : Bool) (e : Entry) (x : GraphWay) (a g n : ℕ) (t : Told) → (g + n < 2 ^ 64 → told x ≡ told_entry (cut_entry e) a g (told to_end)) → g + (if b then 0 else n) < 2 ^ 64
-    → Begins (if b then Nothing else e) → told x ≡ told_entry (cut_entry (if b then Nothing else e)) a g t
+tells_turns : (b : Bool) (e : Entry) (x : GraphWay) (a g n : ℕ) (t : ToldWay) → (g + n < 2 ^ 64 → graph_way_told x ≡ told_entry (cut_entry e) a g (graph_way_told to_end)) → g + (if b then 0 else n) < 2 ^ 64
+    → Begins (if b then Nothing else e) → graph_way_told x ≡ told_entry (cut_entry (if b then Nothing else e)) a g t
 tells_turns true e x a g n t so room is = absurd is
-tells_turns false e x a g n t so room is = so room ∙ any_past e a g (told to_end) t is
+tells_turns false e x a g n t so room is = so room ∙ any_past e a g (graph_way_told to_end) t is
 
 forks : (g nested count : ℕ) → g + (nested + count) < 2 ^ 64 → told_fork (numbers_from (g + nested) count) ≡ told_fork (cut_numbers (min (g + cut nested) (2 ^ 64 - 1)) (cut count))
 forks g nested count room =
@@ -88,7 +88,7 @@ forks g nested count room =
     whole : (m : ℕ) → g + (nested + count) < m → g + nested + count < m
     whole m less = omega (arith, less)
 
-tells_fork : (e : Entry) (a g nested count : ℕ) (t : Told) → Begins (fork_entry e nested count) → g + (nested + own_groups e count) < 2 ^ 64
+tells_fork : (e : Entry) (a g nested count : ℕ) (t : ToldWay) → Begins (fork_entry e nested count) → g + (nested + own_groups e count) < 2 ^ 64
     → told_fork (numbers_from (g + nested) count) ≡ told_entry (cut_entry (fork_entry e nested count)) a g t
 tells_fork Nothing a g nested count t is room = absurd is
 tells_fork State a g nested count t is room = forks g nested count room
@@ -101,14 +101,14 @@ less_back : (a m n l : ℕ) → a + (m + n) < l → a + n < l
 less_back a m n l e = omega (arith, e)
 
 mutual
-  pub tells_in : (ns : Nodes) (a g : ℕ) (w : GraphWay) → g + groups_in ns < 2 ^ 64 → told (way_in ns a g w) ≡ told_entry (cut_entry (entry_of ns)) a g (told w)
+  pub tells_in : (ns : Nodes) (a g : ℕ) (w : GraphWay) → g + groups_in ns < 2 ^ 64 → graph_way_told (way_in_nodes ns a g w) ≡ told_entry (cut_entry (nodes_entry ns)) a g (graph_way_told w)
   tells_in no_nodes a g w room = refl
   tells_in (node_then n ns) a g w room =
-      tells_by (node_entry n) (entry_of ns) (way_in_node n a g) (way_in ns a g w) a g (told w) (λ is. tells_node n a g (told w) is (less_front g (groups_of n) (groups_in ns) (2 ^ 64) room)) (tells_in ns a g w (less_back g (groups_of n) (groups_in ns) (2 ^ 64) room))
+      tells_by (node_entry n) (nodes_entry ns) (way_in_node n a g) (way_in_nodes ns a g w) a g (graph_way_told w) (λ is. tells_node n a g (graph_way_told w) is (less_front g (node_groups n) (groups_in ns) (2 ^ 64) room)) (tells_in ns a g w (less_back g (node_groups n) (groups_in ns) (2 ^ 64) room))
 
-  tells_node : (n : Node) (a g : ℕ) (t : Told) → Begins (node_entry n) → g + groups_of n < 2 ^ 64 → told (way_in_node n a g) ≡ told_entry (cut_entry (node_entry n)) a g t
+  tells_node : (n : Node) (a g : ℕ) (t : ToldWay) → Begins (node_entry n) → g + node_groups n < 2 ^ 64 → graph_way_told (way_in_node n a g) ≡ told_entry (cut_entry (node_entry n)) a g t
   tells_node (block_node block) a g t is room = refl
-  tells_node (turns_node counter turns body) a g t is room = tells_turns (turns == 0) (entry_of body) (way_in body a g to_end) a g (groups_in body) t (tells_in body a g to_end) room is
+  tells_node (turns_node counter turns body) a g t is room = tells_turns (turns == 0) (nodes_entry body) (way_in_nodes body a g to_end) a g (groups_in body) t (tells_in body a g to_end) room is
   tells_node (loop_node test flag body) a g t is room = refl
   tells_node (choice_node test flag chosen other) a g t is room = refl
   tells_node (threads_node lists) a g t is room =

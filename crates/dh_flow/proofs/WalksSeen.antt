@@ -11,8 +11,8 @@ use Rattle.dh_plan.specs.PlainPlans.{Node, choice_node, loop_node, threads_node,
 use Rattle.dh_plan.specs.SeenPlans.{node_seen, nodes_seen}
 use Rattle.dh_flow.specs.declared.measuring.NodeMark.{NodeMark}
 use Rattle.dh_flow.specs.Measured.{all_lists_seen}
-use Rattle.dh_flow.specs.ToldWays.{Told, told_go}
-use Rattle.dh_flow.specs.GraphWalks.{states_at, turn_told, loop_told, choice_told, first_told, AddsGroups, Pushes, Walks, WalksNode, WalksLists}
+use Rattle.dh_flow.specs.ToldWays.{ToldWay, told_go}
+use Rattle.dh_flow.specs.GraphWalks.{states_at, turn_told, loop_told, choice_told, first_told, AddsGroups, PushesState, Walks, WalksNode, WalksLists}
 use Rattle.dh_flow.proofs.NodeForms.{step_is, turns_is, loop_is, choice_is, threads_is}
 use Rattle.dh_flow.proofs.WalksMade.{walks_step, walks_no_turn, walks_turns, walks_loop, walks_choice, walks_threads}
 
@@ -25,23 +25,23 @@ not_zero n some = by (n == 0) refl
         absurd (some none)
     by false f = f
 
-module _ (node : code.Node) (own : ℕ) (m : NodeMark) (way : Told) (old new : List NodeMark) (g h : Graph) where
+module _ (node : code.Node) (own : ℕ) (m : NodeMark) (way : ToldWay) (old new : List NodeMark) (g h : Graph) where
   seen_as : (n : Node) → node_seen node ≡ n → WalksNode n own m way old new g h → WalksNode (node_seen node) own m way old new g h
   seen_as n e walks = subst (λ x. WalksNode x own m way old new g h) (sym e) walks
 
-  pub turns_seen : (counter count last : ℕ) (body : Vec code.Node Global) (xs : List code.Node) (d : Told) → node ≡ form.Turns counter count body → xs ≡ body.items → (count ≡ 0 → ⊥) → last ≡ count - 1
+  pub turns_seen : (counter count last : ℕ) (body : Vec code.Node Global) (xs : List code.Node) (d : ToldWay) → node ≡ form.Turns counter count body → xs ≡ body.items → (count ≡ 0 → ⊥) → last ≡ count - 1
       → d ≡ turn_told counter last m.own.entry way g → Walks (nodes_seen xs) own d old new g h → WalksNode (node_seen node) own m way old new g h
   turns_seen counter count last body xs d is same some l d_is walks =
       seen_as (turns_node counter count (nodes_seen xs)) (ap node_seen is ∙ (turns_is counter count body ∙ ap (λ x. turns_node counter count (nodes_seen x)) (sym same))) (walks_turns counter count last (nodes_seen xs) own m way d old new g h (not_zero count some) l d_is walks)
 
-  pub loop_seen : (test flag : ℕ) (body : Vec code.Node Global) (xs : List code.Node) (d again : Told) (p : Graph) → node ≡ form.Loop test flag body → xs ≡ body.items → d ≡ loop_told flag m way g → Pushes test own d g p
+  pub loop_seen : (test flag : ℕ) (body : Vec code.Node Global) (xs : List code.Node) (d again : ToldWay) (p : Graph) → node ≡ form.Loop test flag body → xs ≡ body.items → d ≡ loop_told flag m way g → PushesState test own d g p
       → again ≡ told_go (states_at g) → Walks (nodes_seen xs) own again old new p h → WalksNode (node_seen node) own m way old new g h
   loop_seen test flag body xs d again p is same d_is pushes again_is walks =
       seen_as (loop_node test flag (nodes_seen xs)) (ap node_seen is ∙ (loop_is test flag body ∙ ap (λ x. loop_node test flag (nodes_seen x)) (sym same)))
       (walks_loop test flag (nodes_seen xs) own m way d old new g p h d_is pushes (subst (λ t. Walks (nodes_seen xs) own t old new p h) again_is walks))
 
-  pub choice_seen : (test flag : ℕ) (chosen other : Vec code.Node Global) (xs ys : List code.Node) (d : Told) (mid : List NodeMark) (p q : Graph) → node ≡ form.Choice test flag chosen other → xs ≡ chosen.items → ys ≡ other.items
-      → d ≡ choice_told flag m way g → Pushes test own d g p → Walks (nodes_seen xs) own way old mid p q → Walks (nodes_seen ys) own way mid new q h → WalksNode (node_seen node) own m way old new g h
+  pub choice_seen : (test flag : ℕ) (chosen other : Vec code.Node Global) (xs ys : List code.Node) (d : ToldWay) (mid : List NodeMark) (p q : Graph) → node ≡ form.Choice test flag chosen other → xs ≡ chosen.items → ys ≡ other.items
+      → d ≡ choice_told flag m way g → PushesState test own d g p → Walks (nodes_seen xs) own way old mid p q → Walks (nodes_seen ys) own way mid new q h → WalksNode (node_seen node) own m way old new g h
   choice_seen test flag chosen other xs ys d mid p q is xs_is ys_is d_is pushes one two =
       seen_as (choice_node test flag (nodes_seen xs) (nodes_seen ys))
       (ap node_seen is ∙ (choice_is test flag chosen other ∙ (ap (λ x. choice_node test flag (nodes_seen x) (nodes_seen other.items)) (sym xs_is) ∙ ap (λ y. choice_node test flag (nodes_seen xs) (nodes_seen y)) (sym ys_is))))
@@ -53,9 +53,9 @@ module _ (node : code.Node) (own : ℕ) (m : NodeMark) (way : Told) (old new : L
       seen_as (threads_node (all_lists_seen vs)) (ap node_seen is ∙ (threads_is lists ∙ ap (λ x. threads_node (all_lists_seen x)) (sym same)))
       (walks_threads (all_lists_seen vs) own first m way old new g p h made first_is walks adds)
 
-pub no_turn_seen : (node : code.Node) (own : ℕ) (m : NodeMark) (way : Told) (old : List NodeMark) (g : Graph) (counter count : ℕ) (body : Vec code.Node Global) → node ≡ form.Turns counter count body → count ≡ 0 → WalksNode (node_seen node) own m way old old g g
+pub no_turn_seen : (node : code.Node) (own : ℕ) (m : NodeMark) (way : ToldWay) (old : List NodeMark) (g : Graph) (counter count : ℕ) (body : Vec code.Node Global) → node ≡ form.Turns counter count body → count ≡ 0 → WalksNode (node_seen node) own m way old old g g
 no_turn_seen node own m way old g counter count body is none =
     seen_as node own m way old old g g (turns_node counter count (nodes_seen body.items)) (ap node_seen is ∙ turns_is counter count body) (walks_no_turn counter count (nodes_seen body.items) own m way old g none)
 
-pub step_seen : (node : code.Node) (own : ℕ) (m : NodeMark) (way : Told) (old : List NodeMark) (g h : Graph) (block : ℕ) → node ≡ form.Step block → Pushes block own way g h → WalksNode (node_seen node) own m way old old g h
+pub step_seen : (node : code.Node) (own : ℕ) (m : NodeMark) (way : ToldWay) (old : List NodeMark) (g h : Graph) (block : ℕ) → node ≡ form.Step block → PushesState block own way g h → WalksNode (node_seen node) own m way old old g h
 step_seen node own m way old g h block is pushes = seen_as node own m way old old g h _ (ap node_seen is ∙ step_is block) (walks_step block own m way old g h pushes)

@@ -11,11 +11,11 @@ use Rattle.dh_plan.specs.SeenPlans.{node_seen, nodes_seen}
 use Rattle.dh_flow.specs.declared.measuring.Entry.{Entry}
 use Rattle.dh_flow.specs.declared.measuring.NodeMark.{NodeMark}
 use Rattle.dh_flow.specs.Measured.{all_lists_seen}
-use Rattle.dh_flow.specs.ToldWays.{Told, told_rest, told_entry, told_group, group_told, decision_told}
+use Rattle.dh_flow.specs.ToldWays.{ToldWay, told_rest, told_entry, told_group, group_told, decision_told}
 use Rattle.dh_flow.specs.GraphWalks.{TakesUp, cut_sum, states_at, groups_at, Walks, WalksNext, WalksLists}
 use Rattle.dh_flow.proofs.WalksMade.{walks_none, walks_then, no_lists_walked, lists_then}
 
-pub record Leads (xs : List code.Node) (i own : ℕ) (way : Told) (old now : List NodeMark) (g m : Graph) : Type 0 where
+pub record Leads (xs : List code.Node) (i own : ℕ) (way : ToldWay) (old now : List NodeMark) (g m : Graph) : Type 0 where
   pub so : (new : List NodeMark) (h : Graph) → Walks (nodes_seen (drop i xs)) own way now new m h → Walks (nodes_seen xs) own way old new g h
 
 abbrev pub NodesLead : List code.Node → (i own : ℕ) → Decision → (old now : List NodeMark) → (g m : Graph) → Type 0
@@ -24,10 +24,10 @@ NodesLead xs i own way old now g m = Leads xs i own (decision_told way) old now 
 abbrev pub InnerLead : List code.Node → (i own : ℕ) → (old now : List NodeMark) → (g m : Graph) → Type 0
 InnerLead xs i own old now g m = Leads xs i own told_rest old now g m
 
-pub nodes_begin : (xs : List code.Node) (own : ℕ) (way : Told) (old : List NodeMark) (g : Graph) → Leads xs 0 own way old old g g
+pub nodes_begin : (xs : List code.Node) (own : ℕ) (way : ToldWay) (old : List NodeMark) (g : Graph) → Leads xs 0 own way old old g g
 nodes_begin xs own way old g = record { so = λ new h walks. walks }
 
-pub nodes_turn : (xs : List code.Node) (i own : ℕ) (x : code.Node) (way : Told) (old now mid : List NodeMark) (g m p : Graph) → i < length xs → x ≡ get_or xs i x → WalksNext (node_seen x) own way now mid m p
+pub nodes_turn : (xs : List code.Node) (i own : ℕ) (x : code.Node) (way : ToldWay) (old now mid : List NodeMark) (g m p : Graph) → i < length xs → x ≡ get_or xs i x → WalksNext (node_seen x) own way now mid m p
     → Leads xs i own way old now g m → Leads xs (i + 1) own way old mid g p
 nodes_turn xs i own x way old now mid g m p within is one h =
     record { so = λ new e walks. h.so new e (subst (λ ns. Walks ns own way now new m e) (sym (ap nodes_seen (at_item xs i x within is))) (walks_then (node_seen x) (nodes_seen (drop (i + 1) xs)) own way now mid new m p e one walks)) }
@@ -47,7 +47,7 @@ past (x ∷ xs) (suc i) none = past xs i (λ less. none (more i (length xs) less
 no_more : (i n : ℕ) → i < n → n ≤ i → ⊥
 no_more i n less done = omega (arith, less, done)
 
-pub nodes_end : (xs : List code.Node) (i own : ℕ) (way : Told) (old now : List NodeMark) (g m : Graph) → length xs ≤ i → Leads xs i own way old now g m → Walks (nodes_seen xs) own way old now g m
+pub nodes_end : (xs : List code.Node) (i own : ℕ) (way : ToldWay) (old now : List NodeMark) (g m : Graph) → length xs ≤ i → Leads xs i own way old now g m → Walks (nodes_seen xs) own way old now g m
 nodes_end xs i own way old now g m done h = h.so now m (subst (λ ns. Walks ns own way now now m m) (ap nodes_seen (sym (past xs i (λ less. no_more i (length xs) less done)))) (walks_none own way now m))
 
 pub record ListsLead (vs : List (Vec code.Node Global)) (i parent first own : ℕ) (way : Decision) (after : Option Decision) (old now : List NodeMark) (g m : Graph) (made : List Group) : Type 0 where
@@ -87,13 +87,13 @@ lists_end vs i parent first own way after old now g m made done h =
     (h.so now m [] (subst (λ ls. WalksLists ls parent own (option_map decision_told after) now now m m []) (ap all_lists_seen (sym (past vs i (λ less. no_more i (length vs) less done)))) (no_lists_walked parent own (option_map decision_told after) now m)))
 
 -- with the way of a thread, which ends
-pub turned_at_rest : (xs : List code.Node) (i own : ℕ) (x : code.Node) (t : Told) (old now mid : List NodeMark) (g m p : Graph) → t ≡ told_rest → i < length xs → x ≡ get_or xs i x → WalksNext (node_seen x) own t now mid m p
+pub turned_at_rest : (xs : List code.Node) (i own : ℕ) (x : code.Node) (t : ToldWay) (old now mid : List NodeMark) (g m p : Graph) → t ≡ told_rest → i < length xs → x ≡ get_or xs i x → WalksNext (node_seen x) own t now mid m p
     → InnerLead xs i own old now g m → InnerLead xs (i + 1) own old mid g p
 turned_at_rest xs i own x t old now mid g m p is within item one h =
     nodes_turn xs i own x told_rest old now mid g m p within item (subst (λ w. WalksNext (node_seen x) own w now mid m p) is one) h
 
-pub told_at_rest : (e : Entry) (s t a b : ℕ) (r d : Told) → r ≡ told_rest → s ≡ a → t ≡ b → d ≡ told_entry e s t r → d ≡ told_entry e a b told_rest
+pub told_at_rest : (e : Entry) (s t a b : ℕ) (r d : ToldWay) → r ≡ told_rest → s ≡ a → t ≡ b → d ≡ told_entry e s t r → d ≡ told_entry e a b told_rest
 told_at_rest e s t a b r d is ss ts d_is = d_is ∙ (ap (λ x. told_entry e s t x) is ∙ (ap (λ x. told_entry e x t told_rest) ss ∙ ap (λ x. told_entry e a x told_rest) ts))
 
-pub told_there : (e : Entry) (s t a b : ℕ) (way d : Told) → s ≡ a → t ≡ b → d ≡ told_entry e s t way → d ≡ told_entry e a b way
+pub told_there : (e : Entry) (s t a b : ℕ) (way d : ToldWay) → s ≡ a → t ≡ b → d ≡ told_entry e s t way → d ≡ told_entry e a b way
 told_there e s t a b way d ss ts d_is = d_is ∙ (ap (λ x. told_entry e x t way) ss ∙ ap (λ x. told_entry e a x way) ts)

@@ -10,22 +10,22 @@ use Rattle.dh_plan.specs.PlainPlans.{PlainPlan}
 use Rattle.dh_plan.specs.SeenGraphs.{HasFirst, OfFirst, IsWay, AreWays, IsJoin, way_count, WayWithin, WaysWithin, StaysInGroup, BeginsGroups}
 use Rattle.dh_ways.specs.HiddenVariables.{numbers_from}
 use Rattle.dh_plan.specs.Ways.{GraphWay, to_state, by_flag, by_count, to_fork, to_end, AllWays, no_ways, way_then}
-use Rattle.dh_flow.specs.PlainFlows.{Placed, Forked}
-use Rattle.dh_flow.specs.ToldWays.{Told, told_go, told_test, told_count, told_fork, told_rest, decision_told, told, groups_told, group_told, forked_told}
+use Rattle.dh_flow.specs.PlainFlows.{PlacedState, Forked}
+use Rattle.dh_flow.specs.ToldWays.{ToldWay, told_go, told_test, told_count, told_fork, told_rest, decision_told, graph_way_told, groups_told, group_told, forked_told}
 use Rattle.dh_flow.proofs.WaysStay.{SomeWays, BeginsAs, IsIn, IsGood, AreGood}
 
 -- The parts of what is told.
 
-same_flag : (f g : ℕ) (a b c d : Told) → told_test f a c ≡ told_test g b d → f ≡ g
+same_flag : (f g : ℕ) (a b c d : ToldWay) → told_test f a c ≡ told_test g b d → f ≡ g
 same_flag f g a b c d e = cc
 
-same_first : (f g : ℕ) (a b c d : Told) → told_test f a c ≡ told_test g b d → a ≡ b
+same_first : (f g : ℕ) (a b c d : ToldWay) → told_test f a c ≡ told_test g b d → a ≡ b
 same_first f g a b c d e = cc
 
-same_second : (f g : ℕ) (a b c d : Told) → told_test f a c ≡ told_test g b d → c ≡ d
+same_second : (f g : ℕ) (a b c d : ToldWay) → told_test f a c ≡ told_test g b d → c ≡ d
 same_second f g a b c d e = cc
 
-same_count : (f l g m : ℕ) (a b c d : Told) → told_count f l a c ≡ told_count g m b d → (f ≡ g) × ((l ≡ m) × ((a ≡ b) × (c ≡ d)))
+same_count : (f l g m : ℕ) (a b c d : ToldWay) → told_count f l a c ≡ told_count g m b d → (f ≡ g) × ((l ≡ m) × ((a ≡ b) × (c ≡ d)))
 same_count f l g m a b c d e =
     let p : f ≡ g = cc in
     let q : l ≡ m = cc in
@@ -56,7 +56,7 @@ matches_at f v xs ys i x e at =
     matched_by f v ys x i (slice_get ys i) refl
     (sym (ap (λ o. option_map f o) at) ∙ (sym (slice_get-map f xs i) ∙ (ap (λ l. slice_get l i) e ∙ slice_get-map v ys i)))
 
-module _ (plan : PlainPlan) (ps : List Placed) (fs : List Forked) where
+module _ (plan : PlainPlan) (ps : List PlacedState) (fs : List Forked) where
   -- Good ways lead to what is there.
   mutual
     pub good_within : (w : GraphWay) (o n : ℕ) → length ps ≡ n → IsGood plan ps fs o w → WayWithin n (length plan.registers) w
@@ -95,35 +95,35 @@ module _ (plan : PlainPlan) (ps : List Placed) (fs : List Forked) where
     mutual
       unfolding IsWay decision_told
 
-      pub is_way : (d : Decision) (w : GraphWay) (o : ℕ) → decision_told d ≡ told w → IsGood plan ps fs o w → IsWay gs d w
+      pub is_way : (d : Decision) (w : GraphWay) (o : ℕ) → decision_told d ≡ graph_way_told w → IsGood plan ps fs o w → IsWay gs d w
       is_way (Go state) (to_state s) o e good = let f : told_go state ≡ told_go s = e in cc
-      is_way (Go state) (by_flag f w v) o e good = let f : told_go state ≡ told_test f (told w) (told v) = e in absurd (cc)
-      is_way (Go state) (by_count c l w v) o e good = let f : told_go state ≡ told_count c l (told w) (told v) = e in absurd (cc)
+      is_way (Go state) (by_flag f w v) o e good = let f : told_go state ≡ told_test f (graph_way_told w) (graph_way_told v) = e in absurd (cc)
+      is_way (Go state) (by_count c l w v) o e good = let f : told_go state ≡ told_count c l (graph_way_told w) (graph_way_told v) = e in absurd (cc)
       is_way (Go state) (to_fork f ws) o e good = let f : told_go state ≡ told_fork (numbers_from f (way_count ws)) = e in absurd (cc)
       is_way (Go state) to_end o e good = let f : told_go state ≡ told_rest = e in absurd (cc)
       is_way (Test' flag at a at' b) (to_state s) o e good = let f : told_test flag (decision_told a) (decision_told b) ≡ told_go s = e in absurd (cc)
       is_way (Test' flag at a at' b) (by_flag f w v) o e good =
-          (same_flag flag f (decision_told a) (told w) (decision_told b) (told v) e, (is_way a w o (same_first flag f (decision_told a) (told w) (decision_told b) (told v) e) good.1.0, is_way b v o (same_second flag f (decision_told a) (told w) (decision_told b) (told v) e) good.1.1))
-      is_way (Test' flag at a at' b) (by_count c l w v) o e good = let f : told_test flag (decision_told a) (decision_told b) ≡ told_count c l (told w) (told v) = e in absurd (cc)
+          (same_flag flag f (decision_told a) (graph_way_told w) (decision_told b) (graph_way_told v) e, (is_way a w o (same_first flag f (decision_told a) (graph_way_told w) (decision_told b) (graph_way_told v) e) good.1.0, is_way b v o (same_second flag f (decision_told a) (graph_way_told w) (decision_told b) (graph_way_told v) e) good.1.1))
+      is_way (Test' flag at a at' b) (by_count c l w v) o e good = let f : told_test flag (decision_told a) (decision_told b) ≡ told_count c l (graph_way_told w) (graph_way_told v) = e in absurd (cc)
       is_way (Test' flag at a at' b) (to_fork f ws) o e good = let f : told_test flag (decision_told a) (decision_told b) ≡ told_fork (numbers_from f (way_count ws)) = e in absurd (cc)
       is_way (Test' flag at a at' b) to_end o e good = let f : told_test flag (decision_told a) (decision_told b) ≡ told_rest = e in absurd (cc)
       is_way (Count' counter last at a at' b) (to_state s) o e good = let f : told_count counter last (decision_told a) (decision_told b) ≡ told_go s = e in absurd (cc)
-      is_way (Count' counter last at a at' b) (by_flag f w v) o e good = let f : told_count counter last (decision_told a) (decision_told b) ≡ told_test f (told w) (told v) = e in absurd (cc)
+      is_way (Count' counter last at a at' b) (by_flag f w v) o e good = let f : told_count counter last (decision_told a) (decision_told b) ≡ told_test f (graph_way_told w) (graph_way_told v) = e in absurd (cc)
       is_way (Count' counter last at a at' b) (by_count c l w v) o e good =
-          let p = same_count counter last c l (decision_told a) (told w) (decision_told b) (told v) e in
+          let p = same_count counter last c l (decision_told a) (graph_way_told w) (decision_told b) (graph_way_told v) e in
           ((p.0, p.1.0), (is_way a w o p.1.1.0 good.1.0, is_way b v o p.1.1.1 good.1.1))
       is_way (Count' counter last at a at' b) (to_fork f ws) o e good = let f : told_count counter last (decision_told a) (decision_told b) ≡ told_fork (numbers_from f (way_count ws)) = e in absurd (cc)
       is_way (Count' counter last at a at' b) to_end o e good = let f : told_count counter last (decision_told a) (decision_told b) ≡ told_rest = e in absurd (cc)
       is_way (Fork forked) (to_state s) o e good = let f : told_fork forked.items ≡ told_go s = e in absurd (cc)
-      is_way (Fork forked) (by_flag f w v) o e good = let f : told_fork forked.items ≡ told_test f (told w) (told v) = e in absurd (cc)
-      is_way (Fork forked) (by_count c l w v) o e good = let f : told_fork forked.items ≡ told_count c l (told w) (told v) = e in absurd (cc)
+      is_way (Fork forked) (by_flag f w v) o e good = let f : told_fork forked.items ≡ told_test f (graph_way_told w) (graph_way_told v) = e in absurd (cc)
+      is_way (Fork forked) (by_count c l w v) o e good = let f : told_fork forked.items ≡ told_count c l (graph_way_told w) (graph_way_told v) = e in absurd (cc)
       is_way (Fork forked) (to_fork f ws) o e good =
           let same = same_groups forked.items (numbers_from f (way_count ws)) e in
           (first_of ws f good.0 forked.items same, (same, subst (λ ns. AreWays gs ns ws) (sym same) (ways_are ws o f good.1)))
       is_way (Fork forked) to_end o e good = let f : told_fork forked.items ≡ told_rest = e in absurd (cc)
       is_way Rest (to_state s) o e good = let f : told_rest ≡ told_go s = e in absurd (cc)
-      is_way Rest (by_flag f w v) o e good = let f : told_rest ≡ told_test f (told w) (told v) = e in absurd (cc)
-      is_way Rest (by_count c l w v) o e good = let f : told_rest ≡ told_count c l (told w) (told v) = e in absurd (cc)
+      is_way Rest (by_flag f w v) o e good = let f : told_rest ≡ told_test f (graph_way_told w) (graph_way_told v) = e in absurd (cc)
+      is_way Rest (by_count c l w v) o e good = let f : told_rest ≡ told_count c l (graph_way_told w) (graph_way_told v) = e in absurd (cc)
       is_way Rest (to_fork f ws) o e good = let f : told_rest ≡ told_fork (numbers_from f (way_count ws)) = e in absurd (cc)
       is_way Rest to_end o e good = tt
 
@@ -131,11 +131,11 @@ module _ (plan : PlainPlan) (ps : List Placed) (fs : List Forked) where
       ways_are no_ways o g good = tt
       ways_are (way_then w ws) o g good =
           let found = matches_at forked_told group_told fs gs g good.0.group (sym groups_are) good.0.there in
-          let same : decision_told found.item.first ≡ told w = sym (ap (λ t. t.first) found.same) ∙ ap told good.0.first in
+          let same : decision_told found.item.first ≡ graph_way_told w = sym (ap (λ t. t.first) found.same) ∙ ap graph_way_told good.0.first in
           (subst (λ x. OfFirst x (λ d. IsWay gs d w)) (sym found.there) (is_way found.item.first w g same good.1.0), ways_are ws o (suc g) good.1.1)
 
-    pub is_join : (after : Option Decision) (join : Option GraphWay) (o : ℕ) → option_map decision_told after ≡ option_map told join → ((w : GraphWay) → join ≡ Some w → IsGood plan ps fs o w) → IsJoin gs after join
+    pub is_join : (after : Option Decision) (join : Option GraphWay) (o : ℕ) → option_map decision_told after ≡ option_map graph_way_told join → ((w : GraphWay) → join ≡ Some w → IsGood plan ps fs o w) → IsJoin gs after join
     is_join None None o e good = tt
-    is_join None (Some w) o e good = let f : None ≡ Some (told w) = e in absurd (cc)
+    is_join None (Some w) o e good = let f : None ≡ Some (graph_way_told w) = e in absurd (cc)
     is_join (Some d) None o e good = let f : Some (decision_told d) ≡ None = e in absurd (cc)
-    is_join (Some d) (Some w) o e good = is_way d w o (let f : Some (decision_told d) ≡ Some (told w) = e in cc) (good w refl)
+    is_join (Some d) (Some w) o e good = is_way d w o (let f : Some (decision_told d) ≡ Some (graph_way_told w) = e in cc) (good w refl)

@@ -50,34 +50,34 @@ abbrev mutual
   -- how many groups the threads of nodes take
   pub groups_in : Nodes → ℕ
   groups_in no_nodes = 0
-  groups_in (node_then n ns) = groups_of n + groups_in ns
+  groups_in (node_then n ns) = node_groups n + groups_in ns
 
-  pub groups_of : Node → ℕ
-  groups_of (block_node block) = 0
-  groups_of (turns_node counter turns body) = if turns == 0 then 0 else groups_in body
-  groups_of (loop_node test flag body) = groups_in body
-  groups_of (choice_node test flag chosen other) = groups_in chosen + groups_in other
-  groups_of (threads_node lists) = list_groups lists + own_groups (lists_entry lists) (list_count lists)
+  pub node_groups : Node → ℕ
+  node_groups (block_node block) = 0
+  node_groups (turns_node counter turns body) = if turns == 0 then 0 else groups_in body
+  node_groups (loop_node test flag body) = groups_in body
+  node_groups (choice_node test flag chosen other) = groups_in chosen + groups_in other
+  node_groups (threads_node lists) = list_groups lists + own_groups (lists_entry lists) (list_count lists)
 
   pub list_groups : NodeLists → ℕ
   list_groups no_lists = 0
   list_groups (list_then ns lists) = groups_in ns + list_groups lists
 
   -- how nodes begin: as the first of them that does a block
-  pub entry_of : Nodes → Entry
-  entry_of no_nodes = Nothing
-  entry_of (node_then n ns) = entry_or (node_entry n) (entry_of ns)
+  pub nodes_entry : Nodes → Entry
+  nodes_entry no_nodes = Nothing
+  nodes_entry (node_then n ns) = entry_or (node_entry n) (nodes_entry ns)
 
   pub node_entry : Node → Entry
   node_entry (block_node block) = State
-  node_entry (turns_node counter turns body) = if turns == 0 then Nothing else entry_of body
+  node_entry (turns_node counter turns body) = if turns == 0 then Nothing else nodes_entry body
   node_entry (loop_node test flag body) = State
   node_entry (choice_node test flag chosen other) = State
   node_entry (threads_node lists) = fork_entry (lists_entry lists) (list_groups lists) (list_count lists)
 
   pub lists_entry : NodeLists → Entry
   lists_entry no_lists = Nothing
-  lists_entry (list_then ns lists) = entry_or (entry_of ns) (lists_entry lists)
+  lists_entry (list_then ns lists) = entry_or (nodes_entry ns) (lists_entry lists)
 
 -- The numbers of the code.
 
@@ -94,10 +94,10 @@ abbrev pub footprint : (states groups : ℕ) → Entry → Footprint
 footprint states groups entry = record { states = cut states; groups = cut groups; entry = cut_entry entry }
 
 abbrev pub footprint_of : Nodes → Footprint
-footprint_of ns = footprint (states_in ns) (groups_in ns) (entry_of ns)
+footprint_of ns = footprint (states_in ns) (groups_in ns) (nodes_entry ns)
 
 abbrev pub node_footprint : Node → Footprint
-node_footprint n = footprint (states_of n) (groups_of n) (node_entry n)
+node_footprint n = footprint (states_of n) (node_groups n) (node_entry n)
 
 abbrev pub lists_footprint : NodeLists → Footprint
 lists_footprint lists = footprint (list_states lists) (list_groups lists) (lists_entry lists)
@@ -140,7 +140,7 @@ abbrev pub node_mark : Node → NodeMark
 node_mark (block_node block) = list_mark (node_footprint (block_node block))
 node_mark (turns_node counter turns body) = list_mark (node_footprint (turns_node counter turns body))
 node_mark (loop_node test flag body) = test_mark (node_footprint (loop_node test flag body)) (footprint_of body) Nothing
-node_mark (choice_node test flag chosen other) = test_mark (node_footprint (choice_node test flag chosen other)) (footprint_of chosen) (cut_entry (entry_of other))
+node_mark (choice_node test flag chosen other) = test_mark (node_footprint (choice_node test flag chosen other)) (footprint_of chosen) (cut_entry (nodes_entry other))
 node_mark (threads_node lists) = list_mark (node_footprint (threads_node lists))
 
 abbrev pub told_behind : NodeMark → Entry → NodeMark
@@ -150,7 +150,7 @@ abbrev mutual
   -- the marks of nodes, in the order in which they are left: from the last node to the first, each behind those inside
   pub marks_of : Nodes → List NodeMark
   marks_of no_nodes = []
-  marks_of (node_then n ns) = marks_of ns ++ (inner_marks n ++ told_behind (node_mark n) (cut_entry (entry_of ns)) ∷ [])
+  marks_of (node_then n ns) = marks_of ns ++ (inner_marks n ++ told_behind (node_mark n) (cut_entry (nodes_entry ns)) ∷ [])
 
   pub inner_marks : Node → List NodeMark
   inner_marks (block_node block) = []

@@ -3,7 +3,7 @@
 
 ghost use Rattle.std.specs.Prelude.{◌≡◌, IfOk, OnOk};
 ghost use Rattle.dh_flow.specs.ToldWays.{decision_told};
-ghost use Rattle.dh_flow.specs.GraphWalks.{states_at, groups_at, first_told, AddsGroups, Forks, IsChoiceWay, IsLoopWay, IsTurnWay, Pushes, TakesUp, WalksAll, WalksIn, WalksOne};
+ghost use Rattle.dh_flow.specs.GraphWalks.{states_at, groups_at, first_told, AddsGroups, Forks, IsChoiceWay, IsLoopWay, IsTurnWay, PushesState, TakesUp, WalksAll, WalksIn, WalksOne};
 
 use crate::deciding::{counts, tests, way_into};
 use crate::measuring::{Entry, NodeMark, blank, plain_mark};
@@ -37,7 +37,7 @@ fn group_count(graph: &Graph) -> u64
 
 /// Puts a state behind those that are there.
 fn push_state(graph: &mut Graph, block: u64, group: u64, next: Decision) -> Result<(), NoMemory>
-    ensures { OnOk result (Pushes block group (decision_told next) graph.old graph.new) }
+    ensures { OnOk result (PushesState block group (decision_told next) graph.old graph.new) }
 {
     graph.states.push(State { block, group, next })?;
     Ok(())

@@ -16,7 +16,7 @@ use Rattle.dh_expressions.specs.declared.scenes.Lane.{Lane}
 use Rattle.dh_expressions.specs.declared.scenes.Scene.{Scene}
 use Rattle.dh_expressions.specs.Copying.{AreNone, HasScopes}
 use Rattle.dh_expressions.specs.Drafted.{Extends}
-use Rattle.dh_formed.specs.Formed.{Agrees, FormedBlock, Forms, HasKind, IsLaid, IsLaidCopy, AreNotedReads, IsScope, BlockSite, Started}
+use Rattle.dh_formed.specs.Formed.{Agrees, FormedBlock, Forms, HasKind, IsLaidAccess, IsLaidCopy, AreNotedReads, IsScope, BlockSite, Started}
 use Rattle.dh_expressions.specs.Noted.{Notes, given_in, given_to, noted_in, touched_in}
 use Rattle.dh_expressions.specs.Standings.{AccessStanding, copy_places}
 use Rattle.dh_expressions.specs.Touching.{AddsTouched, IsNew, TouchesAt}
@@ -27,7 +27,7 @@ use Rattle.dh_formed.proofs.ValuesFormed.{faults_fewer, forms_again, forms_none,
 
 -- Operations are added.
 
-pub laid_later : (x : FormedBlock) (old new : Draft) (s : AccessStanding) (t : Touched) → Extends old new → IsLaid x old s t → IsLaid x new s t
+pub laid_later : (x : FormedBlock) (old new : Draft) (s : AccessStanding) (t : Touched) → Extends old new → IsLaidAccess x old s t → IsLaidAccess x new s t
 laid_later x old new s t e h = record {
   fault = let f = faults_fewer old new e in let b = h.fault in omega (arith, f, b);
   long = h.long;
@@ -95,7 +95,7 @@ module _ (x : FormedBlock) (scene : Scene) (around : Around) (s : AccessStanding
         let own = a.names.number_is (omega (arith, more, behind, most, all)) in
         omega (arith, own, more, behind)
 
-    new_laid : IsLaid x new s u
+    new_laid : IsLaidAccess x new s u
     new_laid = record {
       fault = fault_there;
       long = copies.long;
@@ -137,10 +137,10 @@ module _ (x : FormedBlock) (scene : Scene) (around : Around) (s : AccessStanding
     there = (t.there (h.there number (record { memory = memory; standing = s }) site)).1;
   }
     where
-      laid_new : (m : ℕ) (u : Touched) (o : BlockSite) → x.sites m ≡ Some o → IsNew old new scene around s number m u → IsLaid x new o.standing u
+      laid_new : (m : ℕ) (u : Touched) (o : BlockSite) → x.sites m ≡ Some o → IsNew old new scene around s number m u → IsLaidAccess x new o.standing u
       laid_new m u o at fresh =
           let own : record { memory = memory; standing = s } ≡ o = some_same (record { memory = memory; standing = s }) o (sym site ∙ (ap x.sites (sym fresh.own) ∙ at)) in
-          subst (λ (w : BlockSite). IsLaid x new w.standing u) own (new_laid u fresh.adds)
+          subst (λ (w : BlockSite). IsLaidAccess x new w.standing u) own (new_laid u fresh.adds)
 
 -- A read has given a value.
 pub noted_notes : (x : FormedBlock) (d : Draft) (before after : Accesses) (number path value memory : ℕ) (s : AccessStanding) → Notes before after number path value
@@ -165,7 +165,7 @@ noted_notes x d before after number path value memory s h site kind noted = reco
         (noted_given (touched_in before m) path value q n (ap (λ r. given_to r q) (sym p.1) ∙ is))
 
     laid_now : (m : ℕ) (u : Touched) (o : BlockSite) → x.sites m ≡ Some o → (touched_in after m ≡ touched_in before m) ⊎ ((m ≡ number) × (touched_in after m ≡ noted_in (touched_in before m) path value))
-        → touched_in after m ≡ Some u → IsLaid x d o.standing u
+        → touched_in after m ≡ Some u → IsLaidAccess x d o.standing u
     laid_now m u o at (inl same) is = noted.laid m u o at (sym same ∙ is)
     laid_now m u o at (inr p) is =
         let old = noted_touched (touched_in before m) path value u (sym p.1 ∙ is) in

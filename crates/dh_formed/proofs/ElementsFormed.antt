@@ -21,7 +21,7 @@ use Rattle.dh_expressions.specs.declared.scenes.Lane.{Lane}
 use Rattle.dh_expressions.specs.declared.scenes.Scene.{Scene}
 use Rattle.dh_expressions.specs.Drafted.{Extends, Pushes}
 use Rattle.dh_expressions.specs.Evaluated.{lane_guard, source_at}
-use Rattle.dh_formed.specs.Formed.{AccessSuits, Agrees, AimSuits, FormedBlock, Forms, FormsPart, FormsTerm, HasKind, IsGuard, IsLaid, AreNotedReads, IsNumberThere, IsRowForm, IsScope, ReadSuits, RowSuits, SharesMemory, Started}
+use Rattle.dh_formed.specs.Formed.{AccessSuits, Agrees, AimSuits, FormedBlock, Forms, FormsPart, FormsTerm, HasKind, IsGuard, IsLaidAccess, AreNotedReads, IsNumberThere, IsRowForm, IsScope, ReadSuits, RowSuits, SharesMemory, Started}
 use Rattle.dh_expressions.specs.MadeTerms.{MadeRead, MadeWrite}
 use Rattle.dh_expressions.specs.Named.{banks_told}
 use Rattle.dh_expressions.specs.Noted.{copied_in, copied_of, copy_or_alone, fault_in, fault_of_touched, given_by, touched_in}
@@ -177,7 +177,7 @@ found_extends scene form d e memory aim copy (Some n) v h = subst (λ (k : Draft
 found_extends scene form d e memory aim copy None v h = pushed_extends d e v copy.guard _ h
 
 -- the access at this path, of those that are laid
-module _ (x : FormedBlock) (d : Draft) (a : Accesses) (s : AccessStanding) (number path : ℕ) (t : Touched) (is : touched_in a number ≡ Some t) (laid : IsLaid x d s t) (within : path < length s.guards) where
+module _ (x : FormedBlock) (d : Draft) (a : Accesses) (s : AccessStanding) (number path : ℕ) (t : Touched) (is : touched_in a number ≡ Some t) (laid : IsLaidAccess x d s t) (within : path < length s.guards) where
   found_copy : (c : AccessAt) × (slice_get t.copies path ≡ Some c)
   found_copy = there t.copies path (subst (λ (l : ℕ). path < l) (sym laid.long) within)
 
@@ -234,7 +234,7 @@ module _ (scene : Scene) (lane : Lane) (current : List (Option ℕ)) (access : p
       touch : FormsTouch x old first middle (stands writes) aim.number
       touch = touch_notes x scene lane.around (stands writes) old first before middle aim.number (low writes) scope.few scope.scopes scope.low t agrees1 started scope.guards memory suits.site noted
 
-      laid : IsLaid x first (stands writes) touch.touched
+      laid : IsLaidAccess x first (stands writes) touch.touched
       laid = touch.notes.laid aim.number touch.touched (record { memory = memory; standing = stands writes }) suits.site touch.there
 
       aimed1 : AimSuits x first memory (form_of access) aim

@@ -19,10 +19,10 @@ use Rattle.dh_expressions.specs.declared.elements.Aim.{Aim}
 use Rattle.dh_expressions.specs.declared.scenes.Around.{Around}
 use Rattle.dh_expressions.specs.declared.scenes.Lane.{Lane}
 use Rattle.dh_expressions.specs.declared.scenes.Scene.{Scene}
-use Rattle.dh_formed.specs.Counted.{Counts, FormIs, HaveGiven, IsAccess, IsLedUse, IsUse, Stands, given_at_paths, length_given, nothing, one_each, ranged, use_of, use_shared}
+use Rattle.dh_formed.specs.Counted.{Counts, FormIs, HaveGiven, IsBlockAccess, IsLedUse, IsUse, ExpressionBegins, given_at_paths, length_given, nothing, one_each, ranged, use_of, use_shared}
 use Rattle.dh_expressions.specs.Drafted.{Extends, Pushes}
 use Rattle.dh_expressions.specs.Evaluated.{lane_guard, source_at}
-use Rattle.dh_formed.specs.Formed.{AccessSuits, Agrees, FormedBlock, IsLaid, AreNotedReads, IsScope, BlockSite, Started}
+use Rattle.dh_formed.specs.Formed.{AccessSuits, Agrees, FormedBlock, IsLaidAccess, AreNotedReads, IsScope, BlockSite, Started}
 use Rattle.dh_expressions.specs.MadeTerms.{MadeRead, MadeWrite}
 use Rattle.dh_expressions.specs.Noted.{Notes, copied_in, copied_of, copy_or_alone, fault_in, given_by, given_in, given_then, given_to, noted_in, touched_in, touched_of}
 use Rattle.dh_expressions.specs.Named.{banks_told}
@@ -109,10 +109,10 @@ module _ (before after : Accesses) (number path value : ℕ) (h : Notes before a
 -- The parts of a read or a write.
 
 abbrev pub IsOne : FormedBlock → (path own : ℕ) → (Sees : ℕ → Type 0) → OperationForm → Type 0
-IsOne x path own Sees = FormIs Sees (λ r. IsAccess x own 1 r) (λ r. IsLedUse x path own 1 r) (λ r. ⊥)
+IsOne x path own Sees = FormIs Sees (λ r. IsBlockAccess x own 1 r) (λ r. IsLedUse x path own 1 r) (λ r. ⊥)
 
 abbrev pub IsOneWrite : FormedBlock → (path own : ℕ) → (Sees : ℕ → Type 0) → OperationForm → Type 0
-IsOneWrite x path own Sees = FormIs Sees (λ r. IsAccess x own 1 r) (λ r. ⊥) (λ r. IsUse x path own 1 r)
+IsOneWrite x path own Sees = FormIs Sees (λ r. IsBlockAccess x own 1 r) (λ r. ⊥) (λ r. IsUse x path own 1 r)
 
 module _ (x : FormedBlock) (scene : Scene) (lane : Lane) (current : List (Option ℕ)) (access : plain.Term) (memory : ℕ) (aim : Aim) (Sees : ℕ → Type 0) where
   abbrev stands : (writes : Truth) → AccessStanding
@@ -124,7 +124,7 @@ module _ (x : FormedBlock) (scene : Scene) (lane : Lane) (current : List (Option
   low : (writes : Truth) (p : ℕ) → (stands writes).leader p ≤ p
   low writes p = omega arith
 
-  abbrev is_access : (writes : Truth) (banks : List (ℕ × ℕ)) → memory < 2 ^ 32 → x.sites aim.number ≡ Some (site writes) → IsAccess x aim.number 1 (reach_told memory aim banks)
+  abbrev is_access : (writes : Truth) (banks : List (ℕ × ℕ)) → memory < 2 ^ 32 → x.sites aim.number ≡ Some (site writes) → IsBlockAccess x aim.number 1 (reach_told memory aim banks)
   is_access writes banks small at = record { from = omega arith; below = omega arith; site = site writes; there = at; memory_is = omega (arith, small) }
 
   touch_counts : (Probes Reads Writes : Reach → Type 0) (writes : Truth) (old new : Draft) (before after : Accesses) → length lane.around.guards.now < 2 ^ 64 → IsScope x old scene lane current
@@ -139,12 +139,12 @@ module _ (x : FormedBlock) (scene : Scene) (lane : Lane) (current : List (Option
           (copies_counts Sees Probes Reads Writes (stands writes).leader (stands writes).bank (copy_places (stands writes)) (stands writes).guards (low writes) (length (stands writes).guards) a.middle new u.copies (a.copies scope.scopes scope.low))
 
   probe_counts : (Reads Writes : Reach → Type 0) (writes : Truth) (d e : Draft) (n fault : ℕ) (guard : Option ℕ) → memory < 2 ^ 32 → x.sites aim.number ≡ Some (site writes)
-      → Pushes d e n guard (Probe (reach_told memory aim []) fault) → Counts d e (FormIs Sees (λ r. IsAccess x aim.number 1 r) Reads Writes) 0 (ranged aim.number 1 one_each) nothing
+      → Pushes d e n guard (Probe (reach_told memory aim []) fault) → Counts d e (FormIs Sees (λ r. IsBlockAccess x aim.number 1 r) Reads Writes) 0 (ranged aim.number 1 one_each) nothing
   probe_counts Reads Writes writes d e n fault guard small at p =
       counts_pushed d e n guard (Probe (reach_told memory aim []) fault) _ 0 (ranged aim.number 1 one_each) nothing p (is_access writes [] small at) (omega arith) (λ m. ranged_one aim.number one_each m) (λ m. refl)
 
   -- the access at this path, where it is laid
-  module _ (writes : Truth) (d : Draft) (a : Accesses) (t : Touched) (is : touched_in a aim.number ≡ Some t) (laid : IsLaid x d (stands writes) t) (within : lane.number < length lane.around.guards.now) where
+  module _ (writes : Truth) (d : Draft) (a : Accesses) (t : Touched) (is : touched_in a aim.number ≡ Some t) (laid : IsLaidAccess x d (stands writes) t) (within : lane.number < length lane.around.guards.now) where
     found_copy : (c : AccessAt) × (slice_get t.copies lane.number ≡ Some c)
     found_copy = there t.copies lane.number (subst (λ (l : ℕ). lane.number < l) (sym laid.long) within)
 
@@ -188,7 +188,7 @@ module _ (x : FormedBlock) (scene : Scene) (lane : Lane) (current : List (Option
       (subst (λ (o : Option ℕ). Finds scene (form_of access) d e memory aim copy o v) is h) led (omega arith) (λ m. refl) (λ m. uses_one m one)
 
   module _ (d e : Draft) (a : Accesses) (v : ℕ) (t : Touched) (is : touched_in a aim.number ≡ Some t) (at : x.sites aim.number ≡ Some (site false)) (small : memory < 2 ^ 32)
-      (laid : IsLaid x d (stands false) t) (within : lane.number < length lane.around.guards.now)
+      (laid : IsLaidAccess x d (stands false) t) (within : lane.number < length lane.around.guards.now)
       (own : given_at_paths a aim.number ≡ lane.number) (known : aim.number < length scene.shares.now)
       (shares : (earlier : ℕ) → slice_get scene.shares.now aim.number ≡ Some (Some earlier) → lane.number < given_at_paths a earlier) where
     abbrev copy : AccessAt
@@ -264,7 +264,7 @@ module _ (x : FormedBlock) (scene : Scene) (lane : Lane) (current : List (Option
       (counts_again a c d Are (0 + 0) 0 (λ m. nothing m + f m) nothing (λ m. nothing m + nothing m) u (counts_again a b c Are 0 0 nothing f nothing nothing h k) l)
 
   module _ (old new : Draft) (before after : Accesses) (v : ℕ) (m : MadeRead scene lane access memory aim old new before after v)
-      (st : Stands x old new scene lane current before aim.number 1) (suits : AccessSuits x scene lane memory aim.number (place_written access) (form_of access) false) where
+      (st : ExpressionBegins x old new scene lane current before aim.number 1) (suits : AccessSuits x scene lane memory aim.number (place_written access) (form_of access) false) where
     pushed : Extends m.first m.second
     pushed = pushed_extends m.first m.second _ _ _ m.probes
 
@@ -282,7 +282,7 @@ module _ (x : FormedBlock) (scene : Scene) (lane : Lane) (current : List (Option
     pub read_counts : Counts old new (IsOne x lane.number aim.number Sees) 0 (ranged aim.number 1 one_each) (ranged aim.number 1 (use_of x scene lane.number))
     read_counts =
         three old m.first m.second new (IsOne x lane.number aim.number Sees) (ranged aim.number 1 one_each) (ranged aim.number 1 (use_of x scene lane.number))
-        (touch_counts (λ r. IsAccess x aim.number 1 r) (λ r. IsLedUse x lane.number aim.number 1 r) (λ r. ⊥) false old m.first before m.middle st.scope.few st.scope m.touches)
+        (touch_counts (λ r. IsBlockAccess x aim.number 1 r) (λ r. IsLedUse x lane.number aim.number 1 r) (λ r. ⊥) false old m.first before m.middle st.scope.few st.scope m.touches)
         (probe_counts (λ r. IsLedUse x lane.number aim.number 1 r) (λ r. ⊥) false m.first m.second _ (fault_in m.middle aim.number) (lane_guard lane) suits.small suits.site m.probes)
         (find_counts m.second new m.middle v touch.touched touch.there suits.site suits.small
         (laid_later x m.first m.second (stands false) touch.touched pushed (touch.notes.laid aim.number touch.touched (site false) suits.site touch.there)) st.scope.within own_given
@@ -323,7 +323,7 @@ module _ (x : FormedBlock) (scene : Scene) (lane : Lane) (current : List (Option
     pub write_counts : Counts old new (IsOneWrite x lane.number aim.number Sees) 0 (ranged aim.number 1 one_each) (ranged aim.number 1 one_each)
     write_counts =
         three old m.first m.second new (IsOneWrite x lane.number aim.number Sees) (ranged aim.number 1 one_each) (ranged aim.number 1 one_each)
-        (touch_counts (λ r. IsAccess x aim.number 1 r) (λ r. ⊥) (λ r. IsUse x lane.number aim.number 1 r) true old m.first before after scope.few scope m.touches)
+        (touch_counts (λ r. IsBlockAccess x aim.number 1 r) (λ r. ⊥) (λ r. IsUse x lane.number aim.number 1 r) true old m.first before after scope.few scope m.touches)
         (probe_counts (λ r. ⊥) (λ r. IsUse x lane.number aim.number 1 r) true m.first m.second _ (fault_in after aim.number) (lane_guard lane) suits.small suits.site m.probes)
         (counts_pushed m.second new m.number (lane_guard lane) _ (IsOneWrite x lane.number aim.number Sees) 0 nothing (ranged aim.number 1 one_each) m.writes
         (is_use true m.first after write_touch.touched write_touch.there (write_touch.notes.laid aim.number write_touch.touched (site true) suits.site write_touch.there) scope.within suits.small suits.site)

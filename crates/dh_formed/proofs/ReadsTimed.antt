@@ -23,10 +23,10 @@ use Rattle.dh_expressions.specs.declared.scenes.Around.{Around}
 use Rattle.dh_expressions.specs.declared.scenes.Lane.{Lane}
 use Rattle.dh_expressions.specs.declared.scenes.Scene.{Scene}
 use Rattle.dh_expressions.specs.Copying.{AddsCopies, AddsCopy, AddsEither, AddsLeader, AddsOther, HasScopes, JoinsLeader}
-use Rattle.dh_formed.specs.Counted.{Stands, given_at_paths}
+use Rattle.dh_formed.specs.Counted.{ExpressionBegins, given_at_paths}
 use Rattle.dh_expressions.specs.Drafted.{Extends, Pushes}
 use Rattle.dh_expressions.specs.Evaluated.{lane_guard, source_at}
-use Rattle.dh_formed.specs.Formed.{AccessSuits, IsLaid, IsScope, ReadSuits, BlockSite}
+use Rattle.dh_formed.specs.Formed.{AccessSuits, IsLaidAccess, IsScope, ReadSuits, BlockSite}
 use Rattle.dh_expressions.specs.MadeTerms.{MadeRead, MadeWrite}
 use Rattle.dh_expressions.specs.Noted.{Notes, copied_in, copied_of, copy_or_alone, fault_in, given_by, given_in, given_to, noted_in, touched_in}
 use Rattle.dh_expressions.specs.Reaching.{Finds, copy_banks, place_written, reach_told}
@@ -335,7 +335,7 @@ module _ (c : BlockClocks) (scene : Scene) (lane : Lane) (current : List (Option
       swap m n = omega arith
 
   module _ (shared : ℕ → Option ℕ) (old new : Draft) (before after : Accesses) (v : ℕ) (kd : Kind) (m : MadeRead scene lane access memory aim old new before after v)
-      (st : Stands c.block old new scene lane current before aim.number 1) (suits : ReadSuits c.block scene lane memory aim.number (place_written access) (form_of access) kd)
+      (st : ExpressionBegins c.block old new scene lane current before aim.number 1) (suits : ReadSuits c.block scene lane memory aim.number (place_written access) (form_of access) kd)
       (agree : AgreeInTime c new) (all : GuardsAt c outer lane.around.guards.now) (noted : NotedInTime c before) (own : c.outer aim.number ≡ outer)
       (share : slice_get scene.shares.now aim.number ≡ Some (shared aim.number))
       (i : Leveled) (r : Reach) (number_is : r.number ≡ aim.number) (at : aim_clock ≡ i.level)
@@ -375,7 +375,7 @@ module _ (c : BlockClocks) (scene : Scene) (lane : Lane) (current : List (Option
         touch_notes c.block scene lane.around (stands false) old m.first before m.middle aim.number (low false) st.scope.few st.scope.scopes st.scope.low m.touches
         (agrees_before c.block m.first new (extends_again m.first m.second new pushed found_more) st.agrees) st.started st.scope.guards memory suits.access.site st.noted
 
-    laid : IsLaid c.block m.first (stands false) shapes.touched
+    laid : IsLaidAccess c.block m.first (stands false) shapes.touched
     laid = shapes.notes.laid aim.number shapes.touched (site false) suits.access.site shapes.there
 
     own_copy : (a : AccessAt) × (slice_get shapes.touched.copies lane.number ≡ Some a)

@@ -31,7 +31,7 @@ use Rattle.dh_expressions.specs.declared.drafts.Draft.{Draft}
 use Rattle.dh_expressions.specs.declared.elements.Aim.{Aim}
 use Rattle.dh_expressions.specs.declared.scenes.Lane.{Lane}
 use Rattle.dh_expressions.specs.declared.scenes.Scene.{Scene}
-use Rattle.dh_formed.specs.Counted.{AreNext, Counts, CountsTerm, CountsTerms, FormIs, HaveGiven, IsAccess, IsLedUse, IsMentioned, IsOfTerm, IsOfTerms, Stands, given_at_paths, nothing, one_each, ranged, register_seen, use_of}
+use Rattle.dh_formed.specs.Counted.{AreNext, Counts, CountsTerm, CountsTerms, FormIs, HaveGiven, IsBlockAccess, IsLedUse, IsMentioned, IsOfTerm, IsOfTerms, ExpressionBegins, given_at_paths, nothing, one_each, ranged, register_seen, use_of}
 use Rattle.dh_formed.specs.CountedLaws.{CountsThrough, IsOfNamed}
 use Rattle.dh_expressions.specs.Evaluated.{counter_of, hidden_register}
 use Rattle.dh_expressions.specs.Named.{first_view, known_in}
@@ -127,7 +127,7 @@ form_wider Sees See Probes Probe_ Reads Read_ Writes Write_ sees probes reads wr
 form_wider Sees See Probes Probe_ Reads Read_ Writes Write_ sees probes reads writes (Set register value) h = h
 
 module _ (x : FormedBlock) (n a m b : ℕ) (from : n ≤ m) (within : m + b ≤ n + a) where
-  abbrev access_wider : (r : Reach) → IsAccess x m b r → IsAccess x n a r
+  abbrev access_wider : (r : Reach) → IsBlockAccess x m b r → IsBlockAccess x n a r
   access_wider r h = record { from = let f = h.from in omega (arith, f, from); below = let l = h.below in omega (arith, l, within); site = h.site; there = h.there; memory_is = h.memory_is }
 
   use_wider : (path : ℕ) (r : Reach) → IsLedUse x path m b r → IsLedUse x path n a r
@@ -181,7 +181,7 @@ module _ (scene : Scene) (lane : Lane) where
 module _ (x : FormedBlock) (scene : Scene) (lane : Lane) (current : List (Option ℕ)) where
   -- what stands behind a part
   pub stands_behind : (old middle new : Draft) (before between : Accesses) (n a b : ℕ) (Where : FormedBlock → Type 0) → FormsPart scene lane current old middle before between Where → Where x → Agrees x middle → Agrees x new
-      → HaveGiven lane before between n a → Stands x old new scene lane current before n (a + b) → Stands x middle new scene lane current between (n + a) b
+      → HaveGiven lane before between n a → ExpressionBegins x old new scene lane current before n (a + b) → ExpressionBegins x middle new scene lane current between (n + a) b
   stands_behind old middle new before between n a b Where f w at_middle at g s = record {
     agrees = at;
     started = started_later x old middle f.extends s.started;
@@ -190,16 +190,16 @@ module _ (x : FormedBlock) (scene : Scene) (lane : Lane) (current : List (Option
     next = next_second scene lane before between n a b s.next g;
   }
 
-  pub stands_first : (old middle new : Draft) (before : Accesses) (n a b : ℕ) → Agrees x middle → Stands x old new scene lane current before n (a + b) → Stands x old middle scene lane current before n a
+  pub stands_first : (old middle new : Draft) (before : Accesses) (n a b : ℕ) → Agrees x middle → ExpressionBegins x old new scene lane current before n (a + b) → ExpressionBegins x old middle scene lane current before n a
   stands_first old middle new before n a b at s = record { agrees = at; started = s.started; scope = s.scope; noted = s.noted; next = next_first scene lane before n a b s.next }
 
   abbrev Counted : plain.Term → Type 0
   Counted t = (old new : Draft) (before after : Accesses) (n next v : ℕ) → MadeTerm scene lane current t old new before after n next v → n + term_accesses t < 2 ^ 32
-      → Stands x old new scene lane current before n (term_accesses t) → TermSuits x scene lane n t → CountsTerm x scene lane old new before after n t
+      → ExpressionBegins x old new scene lane current before n (term_accesses t) → TermSuits x scene lane n t → CountsTerm x scene lane old new before after n t
 
   abbrev AllCounted : plain.Terms → Type 0
   AllCounted ts = (old new : Draft) (before after : Accesses) (n next : ℕ) (vs : List ℕ) → MadeTerms scene lane current ts old new before after n next vs → n + terms_accesses ts < 2 ^ 32
-      → Stands x old new scene lane current before n (terms_accesses ts) → TermsSuit x scene lane n ts × AreNumbers ts → CountsTerms x scene lane old new before after n ts
+      → ExpressionBegins x old new scene lane current before n (terms_accesses ts) → TermsSuit x scene lane n ts × AreNumbers ts → CountsTerms x scene lane old new before after n ts
 
   -- a value that no access is in
   alone_counts : (old new : Draft) (before after : Accesses) (n : ℕ) (Is : OperationForm → Type 0) (p : ℕ) → Counts old new Is 0 nothing nothing → Counts old new Is p (ranged n 0 one_each) (ranged n 0 (use_of x scene lane.number))
@@ -228,8 +228,8 @@ module _ (x : FormedBlock) (scene : Scene) (lane : Lane) (current : List (Option
 
   -- operations of a part with these mentions and accesses
   part_wider : (M N : ℕ → Type 0) (n a m b : ℕ) → ((e : ℕ) → M e → N e) → n ≤ m → m + b ≤ n + a → (o : OperationForm)
-      → FormIs (λ register. IsMentioned scene lane M register) (λ r. IsAccess x m b r) (λ r. IsLedUse x lane.number m b r) (λ r. ⊥) o
-      → FormIs (λ register. IsMentioned scene lane N register) (λ r. IsAccess x n a r) (λ r. IsLedUse x lane.number n a r) (λ r. ⊥) o
+      → FormIs (λ register. IsMentioned scene lane M register) (λ r. IsBlockAccess x m b r) (λ r. IsLedUse x lane.number m b r) (λ r. ⊥) o
+      → FormIs (λ register. IsMentioned scene lane N register) (λ r. IsBlockAccess x n a r) (λ r. IsLedUse x lane.number n a r) (λ r. ⊥) o
   part_wider M N n a m b more from within o h =
       form_wider _ _ _ _ _ _ _ _ (λ register k. mention_wider M N more register k) (λ r k. access_wider x n a m b from within r k) (λ r k. use_wider x n a m b from within lane.number r k) (λ r k. k) o h
 
@@ -314,7 +314,7 @@ module _ (x : FormedBlock) (scene : Scene) (lane : Lane) (current : List (Option
       at_middle : Agrees x m.middle
       at_middle = agrees_before x m.middle m.end (formed scene lane current r m.middle m.end m.between after (n + term_accesses l) next m.b moved (omega (arith, few))).part.extends at_end
 
-      here : Stands x old m.end scene lane current before n (term_accesses l + term_accesses r)
+      here : ExpressionBegins x old m.end scene lane current before n (term_accesses l + term_accesses r)
       here = record { agrees = at_end; started = s.started; scope = s.scope; noted = s.noted; next = s.next }
 
       f : CountsTerm x scene lane old m.middle before m.between n l
@@ -343,14 +343,14 @@ module _ (x : FormedBlock) (scene : Scene) (lane : Lane) (current : List (Option
   module _ (place : Place) (k : Option Kind) (form : plain.TermForm) (memory : ℕ) (old middle new : Draft) (before between after : Accesses) (n count : ℕ) (M N : ℕ → Type 0) (p : ℕ) (aim : Aim) (v : ℕ)
       (own : aim.number ≡ n + count) (more : (e : ℕ) → M e → N e)
       (m : MadeRead scene lane (plain.term place k form) memory aim middle new between after v)
-      (s : Stands x middle new scene lane current between (n + count) 1) (suits : ReadSuits x scene lane memory (n + count) place form (kind_or_first k))
-      (f : Counts old middle (FormIs (λ register. IsMentioned scene lane M register) (λ r. IsAccess x n count r) (λ r. IsLedUse x lane.number n count r) (λ r. ⊥)) p (ranged n count one_each) (ranged n count (use_of x scene lane.number)))
+      (s : ExpressionBegins x middle new scene lane current between (n + count) 1) (suits : ReadSuits x scene lane memory (n + count) place form (kind_or_first k))
+      (f : Counts old middle (FormIs (λ register. IsMentioned scene lane M register) (λ r. IsBlockAccess x n count r) (λ r. IsLedUse x lane.number n count r) (λ r. ⊥)) p (ranged n count one_each) (ranged n count (use_of x scene lane.number)))
       (g : HaveGiven lane before between n count) where
     abbrev See : ℕ → Type 0
     See register = IsMentioned scene lane N register
 
-    stood : Stands x middle new scene lane current between aim.number 1
-    stood = subst (λ (i : ℕ). Stands x middle new scene lane current between i 1) (sym own) s
+    stood : ExpressionBegins x middle new scene lane current between aim.number 1
+    stood = subst (λ (i : ℕ). ExpressionBegins x middle new scene lane current between i 1) (sym own) s
 
     suited : ReadSuits x scene lane memory aim.number place form (kind_or_first k)
     suited = subst (λ (i : ℕ). ReadSuits x scene lane memory i place form (kind_or_first k)) (sym own) suits
@@ -364,7 +364,7 @@ module _ (x : FormedBlock) (scene : Scene) (lane : Lane) (current : List (Option
     given_part = subst (λ (i : ℕ). HaveGiven lane between after i 1) own (read_gives x scene lane current (plain.term place k form) memory aim See middle new between after v m stood suited.access)
 
     abbrev IsWhole : (all : ℕ) → OperationForm → Type 0
-    IsWhole all = FormIs See (λ r. IsAccess x n all r) (λ r. IsLedUse x lane.number n all r) (λ r. ⊥)
+    IsWhole all = FormIs See (λ r. IsBlockAccess x n all r) (λ r. IsLedUse x lane.number n all r) (λ r. ⊥)
 
     read_behind : Counts old new (IsWhole (suc count)) p (ranged n (suc count) one_each) (ranged n (suc count) (use_of x scene lane.number))
     read_behind =
@@ -393,15 +393,15 @@ module _ (x : FormedBlock) (scene : Scene) (lane : Lane) (current : List (Option
   )
 
   pub way_counted : (way : Option Way) (memory first n count : ℕ) (ts : CoreTerms) (old new : Draft) (steps : List ReachStep) → WaySuits x scene lane memory first way → MadeWay scene lane current old new first way steps
-      → Counts old new (FormIs (λ register. IsMentioned scene lane (λ entity. target_mentions entity (target_to way ts) ≡ true) register) (λ r. IsAccess x n count r) (λ r. IsLedUse x lane.number n count r) (λ r. ⊥)) 0 nothing nothing
+      → Counts old new (FormIs (λ register. IsMentioned scene lane (λ entity. target_mentions entity (target_to way ts) ≡ true) register) (λ r. IsBlockAccess x n count r) (λ r. IsLedUse x lane.number n count r) (λ r. ⊥)) 0 nothing nothing
   way_counted None memory first n count ts old new steps suits m = counts_none old new _ m.0
   way_counted (Some w) memory first n count ts old new steps suits m =
-      way_counts (λ register. IsMentioned scene lane (λ entity. target_mentions entity (target_to (Some w) ts) ≡ true) register) (λ r. IsAccess x n count r) (λ r. IsLedUse x lane.number n count r) (λ r. ⊥)
+      way_counts (λ register. IsMentioned scene lane (λ entity. target_mentions entity (target_to (Some w) ts) ≡ true) register) (λ r. IsBlockAccess x n count r) (λ r. IsLedUse x lane.number n count r) (λ r. ⊥)
       scene lane current (Some w) first (kept_each (λ entity. target_mentions entity (target_to (Some w) ts) ≡ true) w.hidden (λ e q. way_mentions w e ts q) suits.0) old new steps m
 
   -- indices with the steps of the way of what they name
   pub through_counted : (r : Ref) (ts : plain.Terms) → AllCounted ts → (old named new : Draft) (before after : Accesses) (n : ℕ) (aim : Aim) → MadeTerms scene lane current ts old named before after n aim.number aim.indices
-      → MadeWay scene lane current named new (first_view scene r) (way_of (known_in scene) r) aim.steps → n + terms_accesses ts < 2 ^ 32 → Stands x old new scene lane current before n (terms_accesses ts) → NamedSuits x scene lane n r ts
+      → MadeWay scene lane current named new (first_view scene r) (way_of (known_in scene) r) aim.steps → n + terms_accesses ts < 2 ^ 32 → ExpressionBegins x old new scene lane current before n (terms_accesses ts) → NamedSuits x scene lane n r ts
       → CountsThrough x scene lane old new before after n r ts
   through_counted r ts all old named new before after n aim m steps few s w = record {
     counts =
@@ -444,13 +444,13 @@ module _ (x : FormedBlock) (scene : Scene) (lane : Lane) (current : List (Option
       at_middle =
           agrees_before x m.middle new (read_forms scene lane current (plain.term place k (plain.accessed r ts)) (memory_of (known_in scene) r) m.aim m.middle new m.between after v (kind_or_first k) m.reads).part.extends s.agrees
 
-      whole : Stands x old new scene lane current before n (terms_accesses ts + 1)
-      whole = subst (λ (c : ℕ). Stands x old new scene lane current before n c) (sym (add-one (terms_accesses ts))) s
+      whole : ExpressionBegins x old new scene lane current before n (terms_accesses ts + 1)
+      whole = subst (λ (c : ℕ). ExpressionBegins x old new scene lane current before n c) (sym (add-one (terms_accesses ts))) s
 
       f : CountsThrough x scene lane old m.middle before m.between n r ts
       f = through_counted r ts all old m.named m.middle before m.between n m.aim m.indices m.steps (omega (arith, few)) (stands_first old m.middle new before n (terms_accesses ts) 1 at_middle whole) (w.0, w.1.0)
 
-      behind : Stands x m.middle new scene lane current m.between (n + terms_accesses ts) 1
+      behind : ExpressionBegins x m.middle new scene lane current m.between (n + terms_accesses ts) 1
       behind = stands_behind old m.middle new before m.between n (terms_accesses ts) 1 _ through.part (w.0, w.1.0) at_middle s.agrees f.given whole
 
   counted_bank : (place : Place) (k : Option Kind) (r : Ref) (bank : ℕ) (at : Place) (t : plain.Term) → Counted t → Counted (plain.term place k (plain.in_bank r bank at t))
@@ -471,13 +471,13 @@ module _ (x : FormedBlock) (scene : Scene) (lane : Lane) (current : List (Option
       at_middle =
           agrees_before x m.middle new (read_forms scene lane current (plain.term place k (plain.in_bank r bank at t)) (memory_of (known_in scene) r) m.aim m.middle new m.between after v (kind_or_first k) m.reads).part.extends s.agrees
 
-      whole : Stands x old new scene lane current before n (term_accesses t + 1)
-      whole = subst (λ (c : ℕ). Stands x old new scene lane current before n c) (sym (add-one (term_accesses t))) s
+      whole : ExpressionBegins x old new scene lane current before n (term_accesses t + 1)
+      whole = subst (λ (c : ℕ). ExpressionBegins x old new scene lane current before n c) (sym (add-one (term_accesses t))) s
 
       f : CountsTerm x scene lane old m.middle before m.between n t
       f = one old m.middle before m.between n m.aim.number m.value m.row (omega (arith, few)) (stands_first old m.middle new before n (term_accesses t) 1 at_middle whole) w.0.0
 
-      behind : Stands x m.middle new scene lane current m.between (n + term_accesses t) 1
+      behind : ExpressionBegins x m.middle new scene lane current m.between (n + term_accesses t) 1
       behind = stands_behind old m.middle new before m.between n (term_accesses t) 1 _ part w.0.0 at_middle s.agrees f.given whole
 
   counted_number : (place : Place) (k : Option Kind) (negative : Truth) (z : ℕ) → Counted (plain.term place k (plain.number negative z))
@@ -516,5 +516,5 @@ module _ (x : FormedBlock) (scene : Scene) (lane : Lane) (current : List (Option
     all_counted (plain.term_then t ts) = counted_then t ts (counted t) (all_counted ts)
 
   pub named_counted : (r : Ref) (ts : plain.Terms) (old new : Draft) (before after : Accesses) (n : ℕ) (aim : Aim) → MadeThrough scene lane current r ts old new before after n aim → n + terms_accesses ts < 2 ^ 32
-      → Stands x old new scene lane current before n (terms_accesses ts) → NamedSuits x scene lane n r ts → CountsThrough x scene lane old new before after n r ts
+      → ExpressionBegins x old new scene lane current before n (terms_accesses ts) → NamedSuits x scene lane n r ts → CountsThrough x scene lane old new before after n r ts
   named_counted r ts old new before after n aim m few s w = through_counted r ts (all_counted ts) old m.middle new before after n aim m.indices m.steps few s w

@@ -25,7 +25,7 @@ use Rattle.dh_expressions.specs.declared.drafts.Draft.{Draft}
 use Rattle.dh_expressions.specs.declared.elements.Aim.{Aim}
 use Rattle.dh_expressions.specs.declared.scenes.Lane.{Lane}
 use Rattle.dh_expressions.specs.declared.scenes.Scene.{Scene}
-use Rattle.dh_formed.specs.Counted.{HaveGiven, Stands}
+use Rattle.dh_formed.specs.Counted.{HaveGiven, ExpressionBegins}
 use Rattle.dh_expressions.specs.Drafted.{Extends}
 use Rattle.dh_expressions.specs.Evaluated.{counter_of, hidden_register}
 use Rattle.dh_expressions.specs.Named.{first_view, known_in}
@@ -371,8 +371,8 @@ module _ (c : BlockClocks) (scene : Scene) (lane : Lane) (current : List (Option
     grown : first.levels.most ≤ final.levels.most
     grown = read_grows shared outer (reach_of (known_in scene) (n + count) place r) first
 
-    stood : Stands c.block middle new scene lane current between aim.number 1
-    stood = subst (λ (i : ℕ). Stands c.block middle new scene lane current between i 1) (sym own) s.stands
+    stood : ExpressionBegins c.block middle new scene lane current between aim.number 1
+    stood = subst (λ (i : ℕ). ExpressionBegins c.block middle new scene lane current between i 1) (sym own) s.stands
 
     suited : ReadSuits c.block scene lane (memory_of (known_in scene) r) aim.number place form (kind_or_first k)
     suited = subst (λ (i : ℕ). ReadSuits c.block scene lane (memory_of (known_in scene) r) i place form (kind_or_first k)) (sym own) suits

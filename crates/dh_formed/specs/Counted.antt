@@ -75,7 +75,7 @@ use_of x scene path access = use_shared (slice_get scene.shares.now access) (x.s
 -- What each operation is.
 
 -- an access of the block, one of those from n on, so many
-pub record IsAccess (x : FormedBlock) (n count : ℕ) (r : Reach) : Type 0 where
+pub record IsBlockAccess (x : FormedBlock) (n count : ℕ) (r : Reach) : Type 0 where
   pub from : n ≤ r.access
   pub below : r.access < n + count
   pub site : BlockSite
@@ -84,7 +84,7 @@ pub record IsAccess (x : FormedBlock) (n count : ℕ) (r : Reach) : Type 0 where
 
 -- it reaches the banks of its path, with its place there
 pub record IsUse (x : FormedBlock) (path n count : ℕ) (r : Reach) : Type 0 where
-  pub access : IsAccess x n count r
+  pub access : IsBlockAccess x n count r
   pub banks_are : r.banks ≡ banks_at access.site.standing path
 
 -- a read is done by a path that leads
@@ -106,12 +106,12 @@ pub record IsMentioned (scene : Scene) (lane : Lane) (mentions : (entity : ℕ) 
 abbrev pub IsOfTerm : FormedBlock → Scene → Lane → (n : ℕ) → plain.Term → OperationForm → Type 0
 IsOfTerm x scene lane n t =
     FormIs (λ register. IsMentioned scene lane (λ entity. term_mentions entity (core_term (known_in scene) n t) ≡ true) register)
-    (λ r. IsAccess x n (term_accesses t) r) (λ r. IsLedUse x lane.number n (term_accesses t) r) (λ r. ⊥)
+    (λ r. IsBlockAccess x n (term_accesses t) r) (λ r. IsLedUse x lane.number n (term_accesses t) r) (λ r. ⊥)
 
 abbrev pub IsOfTerms : FormedBlock → Scene → Lane → (n : ℕ) → plain.Terms → OperationForm → Type 0
 IsOfTerms x scene lane n ts =
     FormIs (λ register. IsMentioned scene lane (λ entity. core_terms_mention entity (core_terms (known_in scene) n ts) ≡ true) register)
-    (λ r. IsAccess x n (terms_accesses ts) r) (λ r. IsLedUse x lane.number n (terms_accesses ts) r) (λ r. ⊥)
+    (λ r. IsBlockAccess x n (terms_accesses ts) r) (λ r. IsLedUse x lane.number n (terms_accesses ts) r) (λ r. ⊥)
 
 -- What is noted of accesses from path to path.
 
@@ -138,7 +138,7 @@ pub record HaveGiven (lane : Lane) (before after : Accesses) (n count : ℕ) : T
   pub behind_them : (m : ℕ) → n + count ≤ m → given_at_paths after m ≡ given_at_paths before m
 
 -- what stands where an expression begins at a path
-pub record Stands (x : FormedBlock) (old new : Draft) (scene : Scene) (lane : Lane) (current : List (Option ℕ)) (before : Accesses) (n count : ℕ) : Type 0 where
+pub record ExpressionBegins (x : FormedBlock) (old new : Draft) (scene : Scene) (lane : Lane) (current : List (Option ℕ)) (before : Accesses) (n count : ℕ) : Type 0 where
   pub agrees : Agrees x new
   pub started : Started x old
   pub scope : IsScope x old scene lane current

@@ -120,7 +120,7 @@ pub record IsLaidCopy (x : FormedBlock) (d : Draft) (s : AccessStanding) (path :
   pub guard : IsGuard x d c.guard
 
 -- an access that stands so has its fault, and its copies
-pub record IsLaid (x : FormedBlock) (d : Draft) (s : AccessStanding) (t : Touched) : Type 0 where
+pub record IsLaidAccess (x : FormedBlock) (d : Draft) (s : AccessStanding) (t : Touched) : Type 0 where
   pub fault : t.fault < length d.faults
   pub long : length t.copies ≡ length s.guards
   pub each : (path : ℕ) (c : AccessAt) → slice_get t.copies path ≡ Some c → IsLaidCopy x d s path c
@@ -128,7 +128,7 @@ pub record IsLaid (x : FormedBlock) (d : Draft) (s : AccessStanding) (t : Touche
 -- what reads of the block gave are its values, of the kinds of their memories
 pub record AreNotedReads (x : FormedBlock) (d : Draft) (a : Accesses) : Type 0 where
   pub given : (number path value : ℕ) (s : BlockSite) → x.sites number ≡ Some s → given_in a number path ≡ Some value → HasKind x d (kind_in x.plan.table s.memory) value
-  pub laid : (number : ℕ) (t : Touched) (s : BlockSite) → x.sites number ≡ Some s → touched_in a number ≡ Some t → IsLaid x d s.standing t
+  pub laid : (number : ℕ) (t : Touched) (s : BlockSite) → x.sites number ≡ Some s → touched_in a number ≡ Some t → IsLaidAccess x d s.standing t
   pub there : (number : ℕ) (s : BlockSite) → x.sites number ≡ Some s → number < length a.touched.items
   pub none : AreNone a.counts.items
 

@@ -19,7 +19,7 @@ use Rattle.dh_expressions.specs.declared.drafts.Draft.{Draft}
 use Rattle.dh_expressions.specs.declared.elements.Aim.{Aim}
 use Rattle.dh_expressions.specs.declared.scenes.Lane.{Lane}
 use Rattle.dh_expressions.specs.declared.scenes.Scene.{Scene}
-use Rattle.dh_formed.specs.Counted.{Stands}
+use Rattle.dh_formed.specs.Counted.{ExpressionBegins}
 use Rattle.dh_expressions.specs.Drafted.{Extends}
 use Rattle.dh_expressions.specs.Evaluated.{counter_of, known_in}
 use Rattle.dh_formed.specs.Formed.{FormedBlock, IsScope, BlockSite}
@@ -95,7 +95,7 @@ abbrev pub ReadsAgree : BlockClocks → Levels → (n : ℕ) → Type 0
 ReadsAgree c l n = (m : ℕ) (s : BlockSite) → c.block.sites m ≡ Some s → m < n → l.reads m ≡ c.reads m
 
 pub record StandsInTime (c : BlockClocks) (old new : Draft) (scene : Scene) (lane : Lane) (current : List (Option ℕ)) (before : Accesses) (shared : ℕ → Option ℕ) (outer n count : ℕ) (l : Levels) : Type 0 where
-  pub stands : Stands c.block old new scene lane current before n count
+  pub stands : ExpressionBegins c.block old new scene lane current before n count
   pub agree : AgreeInTime c new
   pub bounded : AreBounded l
   pub guards : (path : ℕ) (guard : Option ℕ) → slice_get lane.around.guards.now path ≡ Some guard → GuardAt c outer guard

@@ -8,7 +8,7 @@ use Rattle.dh_plan.specs.declared.operations.Operation.{Operation}
 use Rattle.dh_plan.specs.declared.operations.PlanBlock.{PlanBlock}
 use Rattle.dh_gathering.specs.Growing.{place_among}
 use Rattle.dh_plan.specs.PlainPlans.{block_operations, operations_before}
-use Rattle.dh_gathering.specs.Cutting.{AreBlocksOf, AreRising, IsCut, between}
+use Rattle.dh_gathering.specs.Cutting.{AreBlocksOf, AreRisingStarts, IsCutAtStarts, operations_between}
 
 -- where the first of these blocks begins: behind all where there is none
 abbrev pub next_place : List Operation → (starts : List ℕ) → ℕ
@@ -17,7 +17,7 @@ next_place operations (start ∷ starts) = start
 
 abbrev pub all_between : List Operation → (starts : List ℕ) → List (List Operation)
 all_between operations [] = []
-all_between operations (start ∷ starts) = between operations start (next_place operations starts) ∷ all_between operations starts
+all_between operations (start ∷ starts) = operations_between operations start (next_place operations starts) ∷ all_between operations starts
 
 abbrev pub operations_of : List PlanBlock → List (List Operation)
 operations_of blocks = map (λ b. b.operations) blocks
@@ -28,12 +28,12 @@ place_is ops [] (suc i) = refl
 place_is ops (s ∷ starts) zero = refl
 place_is ops (s ∷ starts) (suc i) = place_is ops starts i
 
-between_at : (ops : List Operation) (starts : List ℕ) (i : ℕ) → i < length starts → all_between ops (drop i starts) ≡ between ops (place_among ops starts i) (place_among ops starts (suc i)) ∷ all_between ops (drop (suc i) starts)
+between_at : (ops : List Operation) (starts : List ℕ) (i : ℕ) → i < length starts → all_between ops (drop i starts) ≡ operations_between ops (place_among ops starts i) (place_among ops starts (suc i)) ∷ all_between ops (drop (suc i) starts)
 between_at ops [] i within = absurd (none i within)
   where
     none : (n : ℕ) → n < 0 → ⊥
     none n h = omega (arith, h)
-between_at ops (s ∷ starts) zero within = ap (λ (n : ℕ). between ops s n ∷ all_between ops starts) (place_is ops starts zero)
+between_at ops (s ∷ starts) zero within = ap (λ (n : ℕ). operations_between ops s n ∷ all_between ops starts) (place_is ops starts zero)
 between_at ops (s ∷ starts) (suc i) within = between_at ops starts i (less i (length starts) within)
   where
     less : (n m : ℕ) → suc n < suc m → n < m
@@ -74,7 +74,7 @@ pub record CutFrom (ops : List Operation) (starts : List ℕ) (i : ℕ) (left : 
   pub blocks_are : operations_of (reverse blocks) ≡ all_between ops (drop i starts)
 
 abbrev pub CutAt : (ops : List Operation) → (starts : List ℕ) → (i : ℕ) → (left : List Operation) → (blocks : List PlanBlock) → Type 0
-CutAt ops starts i left blocks = AreRising ops starts → CutFrom ops starts i left blocks
+CutAt ops starts i left blocks = AreRisingStarts ops starts → CutFrom ops starts i left blocks
 
 pub cut_begin : (ops : List Operation) (starts : List ℕ) (i : ℕ) (blocks : List PlanBlock) → i ≡ length starts → blocks ≡ [] → CutAt ops starts i ops blocks
 cut_begin ops starts i blocks last none rising = record {
@@ -107,7 +107,7 @@ cut_turn ops starts i k start left left' own blocks blocks' block next there sta
       ap (λ (bs : List PlanBlock). operations_of (reverse bs)) blocks_are
       ∙ (ap (λ (bs : List PlanBlock). operations_of bs) (reverse-append blocks (block ∷ []))
       ∙ (ap (λ (os : List Operation). os ∷ operations_of (reverse blocks)) (block_is ∙ (own_is ∙ (ap (λ (n : ℕ). drop n left) is ∙ ap (λ (l : List Operation). drop (place_among ops starts i) l) c.left_is)))
-      ∙ (ap (λ (l : List (List Operation)). between ops (place_among ops starts i) (place_among ops starts (suc i)) ∷ l) c.blocks_are
+      ∙ (ap (λ (l : List (List Operation)). operations_between ops (place_among ops starts i) (place_among ops starts (suc i)) ∷ l) c.blocks_are
       ∙ sym (between_at ops starts i there))));
 }
   where
@@ -125,8 +125,8 @@ cut_turn ops starts i k start left left' own blocks blocks' block next there sta
 
 -- What the blocks are that were cut off.
 
-between_long : (ops : List Operation) (a b : ℕ) → a ≤ b → b ≤ length ops → a + length (between ops a b) ≡ b
-between_long ops a b below within = sum (length (between ops a b)) (ap (λ (n : ℕ). n) (length-drop a (take b ops)) ∙ ap (λ (n : ℕ). n - a) (take_long ops b within))
+between_long : (ops : List Operation) (a b : ℕ) → a ≤ b → b ≤ length ops → a + length (operations_between ops a b) ≡ b
+between_long ops a b below within = sum (length (operations_between ops a b)) (ap (λ (n : ℕ). n) (length-drop a (take b ops)) ∙ ap (λ (n : ℕ). n - a) (take_long ops b within))
   where
     sum : (n : ℕ) → n ≡ b - a → a + n ≡ b
     sum n e = omega (arith, e, below)
@@ -170,20 +170,20 @@ begins_from ops (s ∷ starts) (b ∷ blocks) h is (suc block) within =
     assoc : (x y z : ℕ) → x + (y + z) ≡ x + y + z
     assoc x y z = omega arith
 
-    own : b.operations ≡ between ops s (place_among ops starts zero)
-    own = ap (λ (l : List (List Operation)). get_or l 0 []) is ∙ ap (λ (n : ℕ). between ops s n) (place_is ops starts zero)
+    own : b.operations ≡ operations_between ops s (place_among ops starts zero)
+    own = ap (λ (l : List (List Operation)). get_or l 0 []) is ∙ ap (λ (n : ℕ). operations_between ops s n) (place_is ops starts zero)
 
     next_is : s + length b.operations ≡ place_among ops starts zero
     next_is = ap (λ (l : List Operation). s + length l) own ∙ between_long ops s (place_among ops starts zero) (h zero) (rises ops starts (λ k. h (suc k)) zero)
 
 own_from : (ops : List Operation) (starts : List ℕ) (blocks : List PlanBlock) → operations_of blocks ≡ all_between ops starts → (block : ℕ) → block < length starts
-    → block_operations (slice_get blocks block) ≡ between ops (place_among ops starts block) (place_among ops starts (suc block))
+    → block_operations (slice_get blocks block) ≡ operations_between ops (place_among ops starts block) (place_among ops starts (suc block))
 own_from ops [] blocks is block within = absurd (none block within)
   where
     none : (n : ℕ) → n < 0 → ⊥
     none n l = omega (arith, l)
 own_from ops (s ∷ starts) [] is block within = absurd cc
-own_from ops (s ∷ starts) (b ∷ blocks) is zero within = ap (λ (l : List (List Operation)). get_or l 0 []) is ∙ ap (λ (n : ℕ). between ops s n) (place_is ops starts zero)
+own_from ops (s ∷ starts) (b ∷ blocks) is zero within = ap (λ (l : List (List Operation)). get_or l 0 []) is ∙ ap (λ (n : ℕ). operations_between ops s n) (place_is ops starts zero)
 own_from ops (s ∷ starts) (b ∷ blocks) is (suc block) within = own_from ops starts blocks (ap (λ (l : List (List Operation)). drop 1 l) is) block (less block (length starts) within)
   where
     less : (n m : ℕ) → suc n < suc m → n < m
@@ -195,14 +195,14 @@ count_from ops [] (b ∷ blocks) is = absurd cc
 count_from ops (s ∷ starts) [] is = absurd cc
 count_from ops (s ∷ starts) (b ∷ blocks) is = ap suc (count_from ops starts blocks (ap (λ (l : List (List Operation)). drop 1 l) is))
 
-pub blocks_are_of : (ops : List Operation) (starts : List ℕ) (blocks : List PlanBlock) → AreRising ops starts → operations_of blocks ≡ all_between ops starts → AreBlocksOf ops starts blocks
+pub blocks_are_of : (ops : List Operation) (starts : List ℕ) (blocks : List PlanBlock) → AreRisingStarts ops starts → operations_of blocks ≡ all_between ops starts → AreBlocksOf ops starts blocks
 blocks_are_of ops starts blocks rising is = record {
   count = count_from ops starts blocks is;
   begins = λ block within. sym (zero-add (operations_before blocks block)) ∙ (ap (λ (n : ℕ). n + operations_before blocks block) (sym rising.first) ∙ begins_from ops starts blocks rising.rising is block within);
   own = own_from ops starts blocks is;
 }
 
-pub cut_end : (ops : List Operation) (starts : List ℕ) (i : ℕ) (left : List Operation) (blocks reversed : List PlanBlock) → i ≡ 0 → reversed ≡ reverse blocks → CutAt ops starts i left blocks → IsCut ops starts reversed
+pub cut_end : (ops : List Operation) (starts : List ℕ) (i : ℕ) (left : List Operation) (blocks reversed : List PlanBlock) → i ≡ 0 → reversed ≡ reverse blocks → CutAt ops starts i left blocks → IsCutAtStarts ops starts reversed
 cut_end ops starts i left blocks reversed none is h rising =
     blocks_are_of ops starts reversed rising (ap operations_of is ∙ ((h rising).blocks_are ∙ ap (λ (n : ℕ). all_between ops (drop n starts)) none))
 
@@ -232,7 +232,7 @@ cut_step ops starts i start n left left' own blocks blocks' block some within st
         less : (a b : ℕ) → suc a < suc b → a < b
         less a b e = omega (arith, e)
 
-pub cut_last : (ops : List Operation) (starts : List ℕ) (i : ℕ) (left : List Operation) (blocks reversed all : List PlanBlock) → i ≤ 0 → reversed ≡ reverse blocks → all ≡ reversed → CutAt ops starts i left blocks → IsCut ops starts all
+pub cut_last : (ops : List Operation) (starts : List ℕ) (i : ℕ) (left : List Operation) (blocks reversed all : List PlanBlock) → i ≤ 0 → reversed ≡ reverse blocks → all ≡ reversed → CutAt ops starts i left blocks → IsCutAtStarts ops starts all
 cut_last ops starts i left blocks reversed all none is same h = cut_end ops starts i left blocks all (zeroth i none) (same ∙ is) h
   where
     zeroth : (m : ℕ) → m ≤ 0 → m ≡ 0

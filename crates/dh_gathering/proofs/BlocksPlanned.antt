@@ -8,8 +8,8 @@ use Rattle.dh_commands.specs.declared.assignments.Values.{Values}
 use Rattle.dh_commands.specs.declared.buildings.Building.{Building}
 use Rattle.dh_commands.specs.Undone.{NoneGiven, given_at}
 use Rattle.dh_gathering.specs.declared.blocks.Made.{Made}
-use Rattle.dh_gathering.specs.Cutting.{AreBlocksOf, AreRising, between}
-use Rattle.dh_gathering.specs.Growing.{IsAtRest, IsClear, place_in, registers_given}
+use Rattle.dh_gathering.specs.Cutting.{AreBlocksOf, AreRisingStarts, operations_between}
+use Rattle.dh_gathering.specs.Growing.{IsAtRest, IsClear, block_place_in, registers_given}
 use Rattle.dh_gathering.specs.MadeBlocks.{BlockStandsAt}
 
 fewer : (n m : ℕ) → suc n < suc m → n < m
@@ -22,7 +22,7 @@ never : (n : ℕ) → n < 0 → ⊥
 never n h = omega (arith, h)
 
 -- what was made is ready to be cut
-pub rest_rises : (m : Made) → IsAtRest m → AreRising m.building.draft.operations.items m.starts.items
+pub rest_rises : (m : Made) → IsAtRest m → AreRisingStarts m.building.draft.operations.items m.starts.items
 rest_rises m rest = record { first = rest.first; rising = rest.rising }
 
 -- the front of a list whose elements are those of another
@@ -62,8 +62,8 @@ module _ (final : Made) (blocks : List PlanBlock) (cut : AreBlocksOf final.build
   pub operations_are : block_operations (slice_get blocks block) ≡ drop (length before.draft.operations.items) after.draft.operations.items
   operations_are =
       cut.own block here_there
-      ∙ (ap (λ (n : ℕ). between final.building.draft.operations.items n (place_in final (suc block))) stands.begins
-      ∙ (ap (λ (n : ℕ). between final.building.draft.operations.items (length before.draft.operations.items) n) stands.ends
+      ∙ (ap (λ (n : ℕ). operations_between final.building.draft.operations.items n (block_place_in final (suc block))) stands.begins
+      ∙ (ap (λ (n : ℕ). operations_between final.building.draft.operations.items (length before.draft.operations.items) n) stands.ends
       ∙ ap (λ (l : List Operation). drop (length before.draft.operations.items) l) (front_is after.draft.operations.items final.building.draft.operations.items stands.kept.operations)))
 
 -- Values of which none is given are so many registers without one.

@@ -17,7 +17,7 @@ use Rattle.dh_expressions.proofs.Pushing.{extends_self}
 use Rattle.dh_commands.specs.declared.buildings.Building.{Building}
 use Rattle.dh_commands.specs.Done.{DoesCommand}
 use Rattle.dh_commands.specs.MadeCommands.{MadeCommand}
-use Rattle.dh_gathering.specs.MadeBlocks.{AddsFlag, PutsFlag, SetsFlag}
+use Rattle.dh_gathering.specs.MadeBlocks.{AddsFlag, PutsFlag, SetsTestFlag}
 use Rattle.dh_gathering.specs.Gathered.{DoesNumbered}
 
 module _ (scene : Scene) (around : Around) where
@@ -31,7 +31,7 @@ module _ (scene : Scene) (around : Around) where
       h new (subst (λ (cs : List NumberedCommand). DoesNumbered scene around (map numbered_seen cs) here new) (sym (at_item all i c within is)) (mid, (next, (does, rest))))
 
 -- the flag of a test that is a read
-pub flag_of_read : (old mid new : Draft) (t : tree.Term) (value made number flag : ℕ) → is_read_term t ≡ true → Computes old mid made (λ x. binary_of Both (word_shown x value) (word_shown x value)) → Pushes mid new number None (Set flag made) → SetsFlag old new t value flag
+pub flag_of_read : (old mid new : Draft) (t : tree.Term) (value made number flag : ℕ) → is_read_term t ≡ true → Computes old mid made (λ x. binary_of Both (word_shown x value) (word_shown x value)) → Pushes mid new number None (Set flag made) → SetsTestFlag old new t value flag
 flag_of_read old mid new t value made number flag reads h p = record {
   mid = mid;
   made = made;
@@ -44,7 +44,7 @@ flag_of_read old mid new t value made number flag reads h p = record {
   set = p;
 }
 
-pub flag_of_value : (old new : Draft) (t : tree.Term) (value number flag : ℕ) → is_read_term t ≡ false → Pushes old new number None (Set flag value) → SetsFlag old new t value flag
+pub flag_of_value : (old new : Draft) (t : tree.Term) (value number flag : ℕ) → is_read_term t ≡ false → Pushes old new number None (Set flag value) → SetsTestFlag old new t value flag
 flag_of_value old new t value number flag no_read p = record {
   mid = old;
   made = value;

@@ -9,7 +9,7 @@ use Rattle.dh_plan.specs.SeenPlans.{node_seen, nodes_seen}
 use Rattle.dh_plan.specs.SoundPlans.{blocks_of, node_blocks}
 use Rattle.dh_gathering.specs.declared.blocks.Made.{Made}
 use Rattle.dh_gathering.specs.Gathered.{EndsBlock}
-use Rattle.dh_gathering.specs.NamedOnce.{NamesOnce, begun, begun_in, listed}
+use Rattle.dh_gathering.specs.NamedOnce.{NamesOnce, times_begun, times_begun_in, listed}
 
 -- Numbers that lists have, by their parts.
 
@@ -20,21 +20,21 @@ listed_append b (x ∷ xs) ys = let i = listed_append b xs ys in by (if b == x t
     by : (one all front back : ℕ) → all ≡ front + back → one + all ≡ one + front + back
     by one all front back e = omega (arith, e)
 
-begun_all : (b : ℕ) → begun b b ≡ 0
+begun_all : (b : ℕ) → times_begun b b ≡ 0
 begun_all zero = refl
 begun_all (suc b) = begun_all b
 
-begun_next : (b : ℕ) → begun b (suc b) ≡ 1
+begun_next : (b : ℕ) → times_begun b (suc b) ≡ 1
 begun_next zero = refl
 begun_next (suc b) = begun_next b
 
-begun_other : (b n : ℕ) → (b ≡ n → ⊥) → begun b (suc n) ≡ begun b n
+begun_other : (b n : ℕ) → (b ≡ n → ⊥) → times_begun b (suc n) ≡ times_begun b n
 begun_other zero zero e = absurd (e refl)
 begun_other zero (suc n) e = refl
 begun_other (suc b) zero e = refl
 begun_other (suc b) (suc n) e = begun_other b n (λ i. e (ap suc i))
 
-begun_one : (b n : ℕ) → begun b (suc n) ≡ (if b == n then 1 else 0) + begun b n
+begun_one : (b n : ℕ) → times_begun b (suc n) ≡ (if b == n then 1 else 0) + times_begun b n
 begun_one b n = by (b == n) refl
   where
     same : (b == n) ≡ true → b ≡ n
@@ -43,11 +43,11 @@ begun_one b n = by (b == n) refl
     other : (b == n) ≡ false → b ≡ n → ⊥
     other e i = grind (arith, nat_tests, e, i)
 
-    by : (t : Bool) → (b == n) ≡ t → begun b (suc n) ≡ (if t then 1 else 0) + begun b n
-    by true e = subst (λ (m : ℕ). begun b (suc m) ≡ 1 + begun b m) (same e) (begun_next b ∙ ap (λ (m : ℕ). 1 + m) (sym (begun_all b)))
-    by false e = begun_other b n (other e) ∙ sym (zero-add (begun b n))
+    by : (t : Bool) → (b == n) ≡ t → times_begun b (suc n) ≡ (if t then 1 else 0) + times_begun b n
+    by true e = subst (λ (m : ℕ). times_begun b (suc m) ≡ 1 + times_begun b m) (same e) (begun_next b ∙ ap (λ (m : ℕ). 1 + m) (sym (begun_all b)))
+    by false e = begun_other b n (other e) ∙ sym (zero-add (times_begun b n))
 
-pub begun_within : (b n : ℕ) → b < n → begun b n ≡ 1
+pub begun_within : (b n : ℕ) → b < n → times_begun b n ≡ 1
 begun_within b zero l = absurd (omega (arith, l))
 begun_within zero (suc n) l = refl
 begun_within (suc b) (suc n) l = begun_within b n (omega (arith, l))
@@ -56,7 +56,7 @@ begun_within (suc b) (suc n) l = begun_within b n (omega (arith, l))
 
 pub once_then : (old mid new : Made) (xs ys : List ℕ) → NamesOnce old mid xs → NamesOnce mid new ys → NamesOnce old new (xs ++ ys)
 once_then old mid new xs ys h k b =
-    by (listed b xs) (listed b ys) (listed b (xs ++ ys)) (begun_in old b) (begun_in mid b) (begun_in new b) (listed_append b xs ys) (h b) (k b)
+    by (listed b xs) (listed b ys) (listed b (xs ++ ys)) (times_begun_in old b) (times_begun_in mid b) (times_begun_in new b) (listed_append b xs ys) (h b) (k b)
   where
     by : (x y xy o m n : ℕ) → xy ≡ x + y → x + o ≡ m → y + m ≡ n → xy + o ≡ n
     by x y xy o m n d e f = omega (arith, d, e, f)
@@ -64,8 +64,8 @@ once_then old mid new xs ys h k b =
 -- a block
 pub once_ended : (old mid new : Made) (start block : ℕ) → mid.starts ≡ old.starts → EndsBlock mid new start block → NamesOnce old new (block ∷ [])
 once_ended old mid new start block same ends b =
-    by (if b == block then 1 else 0) (begun_in old b) (begun_in new b)
-    (ap (λ (l : ℕ). begun b l) longer ∙ (begun_one b (length old.starts.items) ∙ ap (λ (l : ℕ). (if b == l then 1 else 0) + begun b (length old.starts.items)) (sym number)))
+    by (if b == block then 1 else 0) (times_begun_in old b) (times_begun_in new b)
+    (ap (λ (l : ℕ). times_begun b l) longer ∙ (begun_one b (length old.starts.items) ∙ ap (λ (l : ℕ). (if b == l then 1 else 0) + times_begun b (length old.starts.items)) (sym number)))
   where
     number : block ≡ length old.starts.items
     number = ends.number_is ∙ ap (λ s. length s.items) same
@@ -90,7 +90,7 @@ blocks_more [] n = append-nil (node_blocks (node_seen n))
 blocks_more (m ∷ ns) n = ap (λ (l : List ℕ). node_blocks (node_seen m) ++ l) (blocks_more ns n) ∙ sym (append_assoc (node_blocks (node_seen m)) (blocks_of (nodes_seen ns)) (node_blocks (node_seen n)))
 
 pub once_begin : (m : Made) (nodes : List declared.Node) → nodes ≡ [] → NamesOnce m m (blocks_of (nodes_seen nodes))
-once_begin m nodes none b = ap (λ (ns : List declared.Node). listed b (blocks_of (nodes_seen ns)) + begun_in m b) none ∙ zero-add (begun_in m b)
+once_begin m nodes none b = ap (λ (ns : List declared.Node). listed b (blocks_of (nodes_seen ns)) + times_begun_in m b) none ∙ zero-add (times_begun_in m b)
 
 pub once_turn : (old now new : Made) (nodes more : List declared.Node) (node : declared.Node) → more ≡ nodes ++ node ∷ [] → NamesOnce now new (node_blocks (node_seen node)) → NamesOnce old now (blocks_of (nodes_seen nodes))
     → NamesOnce old new (blocks_of (nodes_seen more))
@@ -101,9 +101,9 @@ once_turn old now new nodes more node pushed makes h =
 -- All nodes of a program: from no block on.
 pub once_each : (old new : Made) (nodes : Nodes) → old.starts.items ≡ [] → NamesOnce old new (blocks_of nodes) → (block : ℕ) → block < length new.starts.items → listed block (blocks_of nodes) ≡ 1
 once_each old new nodes none h block within =
-    let e = ap (λ (l : List ℕ). begun block (length l)) none in
+    let e = ap (λ (l : List ℕ). times_begun block (length l)) none in
     let i = begun_within block (length new.starts.items) within in
-    by (listed block (blocks_of nodes)) (begun_in old block) (begun_in new block) (h block) e i
+    by (listed block (blocks_of nodes)) (times_begun_in old block) (times_begun_in new block) (h block) e i
   where
     by : (l o n : ℕ) → l + o ≡ n → o ≡ 0 → n ≡ 1 → l ≡ 1
     by l o n d e f = omega (arith, d, e, f)

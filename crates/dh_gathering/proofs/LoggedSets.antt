@@ -11,7 +11,7 @@ use Rattle.dh_commands.specs.declared.assignments.Change.{Change}
 use Rattle.dh_commands.specs.declared.buildings.Building.{Building}
 use Rattle.dh_commands.specs.Undone.{given_at, undone}
 use Rattle.dh_gathering.specs.MadeBlocks.{IsAmong, SetsGiven}
-use Rattle.dh_gathering.specs.PushedSets.{SetsChanges, SetsLogged, SetsRegister, cleared, set_of, sets_pushed, setting, settings}
+use Rattle.dh_gathering.specs.PushedSets.{SetsChanges, SetsLogged, SetsGivenRegister, cleared_registers, set_of, sets_pushed, setting, settings}
 
 -- Registers that are set in a list.
 
@@ -80,7 +80,7 @@ undone_other : (cs : List Change) (current : List (Option ℕ)) (register : ℕ)
 undone_other [] current register other = refl
 undone_other (c ∷ cs) current register other = given_other (undone cs current) c.register register c.before (λ e. other (inl e)) ∙ undone_other cs current register (λ e. other (inr e))
 
-cleared_stays : (cs : List Change) (current : List (Option ℕ)) (register : ℕ) → given_at current register ≡ None → given_at (cleared cs current) register ≡ None
+cleared_stays : (cs : List Change) (current : List (Option ℕ)) (register : ℕ) → given_at current register ≡ None → given_at (cleared_registers cs current) register ≡ None
 cleared_stays [] current register none = none
 cleared_stays (c ∷ cs) current register none = cleared_stays cs (slice_set current c.register None) register (by (same_or c.register register))
   where
@@ -88,17 +88,17 @@ cleared_stays (c ∷ cs) current register none = cleared_stays cs (slice_set cur
     by (inl e) = subst (λ (r : ℕ). given_at (slice_set current c.register None) r ≡ None) e (given_set current c.register)
     by (inr h) = given_other current c.register register None h ∙ none
 
-cleared_here : (cs : List Change) (current : List (Option ℕ)) (register : ℕ) → IsLogged cs register → given_at (cleared cs current) register ≡ None
+cleared_here : (cs : List Change) (current : List (Option ℕ)) (register : ℕ) → IsLogged cs register → given_at (cleared_registers cs current) register ≡ None
 cleared_here [] current register h = absurd h
 cleared_here (c ∷ cs) current register (inl e) =
     cleared_stays cs (slice_set current c.register None) register (subst (λ (r : ℕ). given_at (slice_set current c.register None) r ≡ None) e (given_set current c.register))
 cleared_here (c ∷ cs) current register (inr h) = cleared_here cs (slice_set current c.register None) register h
 
 -- where none was given before the log, none is given behind it
-pub cleared_all : (cs : List Change) (current : List (Option ℕ)) (register : ℕ) → given_at (undone cs current) register ≡ None → given_at (cleared cs current) register ≡ None
+pub cleared_all : (cs : List Change) (current : List (Option ℕ)) (register : ℕ) → given_at (undone cs current) register ≡ None → given_at (cleared_registers cs current) register ≡ None
 cleared_all cs current register none = by (logged_or cs register)
   where
-    by : IsLogged cs register ⊎ (IsLogged cs register → ⊥) → given_at (cleared cs current) register ≡ None
+    by : IsLogged cs register ⊎ (IsLogged cs register → ⊥) → given_at (cleared_registers cs current) register ≡ None
     by (inl h) = cleared_here cs current register h
     by (inr other) = cleared_stays cs current register (sym (undone_other cs current register other) ∙ none)
 
@@ -110,7 +110,7 @@ given_logged cs current register value none given = by (logged_or cs register)
     by (inl h) = h
     by (inr other) = let same = sym none ∙ (undone_other cs current register other ∙ given) in absurd cc
 
-pub cleared_long : (cs : List Change) (current : List (Option ℕ)) → length (cleared cs current) ≡ length current
+pub cleared_long : (cs : List Change) (current : List (Option ℕ)) → length (cleared_registers cs current) ≡ length current
 cleared_long [] current = refl
 cleared_long (c ∷ cs) current = cleared_long cs (slice_set current c.register None) ∙ set_long current c.register None
 
@@ -177,7 +177,7 @@ pub record SetsFrom (all : List Change) (i : ℕ) (old here : Building) : Type 0
 pub sets_begin : (b : Building) → SetsFrom b.values.log.items 0 b b
 sets_begin b = record { so = λ new h. h; log = refl }
 
-pub sets_turn : (all : List Change) (i : ℕ) (old here next : Building) (c : Change) → i < length all → c ≡ get_or all i c → SetsRegister here next c.register → SetsFrom all i old here → SetsFrom all (i + 1) old next
+pub sets_turn : (all : List Change) (i : ℕ) (old here next : Building) (c : Change) → i < length all → c ≡ get_or all i c → SetsGivenRegister here next c.register → SetsFrom all i old here → SetsFrom all (i + 1) old next
 sets_turn all i old here next c within is s h = record {
   so = λ new k. h.so new (subst (λ (l : List Change). SetsChanges here new l) (sym (at_item all i c within is)) (record {
     operations =
@@ -189,7 +189,7 @@ sets_turn all i old here next c within is s h = record {
         (sym (settings_append (set_of c.register (given_at here.values.current.items c.register)) (sets_pushed (drop (i + 1) all) (slice_set here.values.current.items c.register None)))))));
     faults = k.faults ∙ s.faults;
     accesses = k.accesses ∙ s.accesses;
-    current = k.current ∙ ap (λ (l : List (Option ℕ)). cleared (drop (i + 1) all) l) s.current;
+    current = k.current ∙ ap (λ (l : List (Option ℕ)). cleared_registers (drop (i + 1) all) l) s.current;
     marks = k.marks ∙ s.marks;
   }));
   log = ap (λ v. v.items) s.log ∙ h.log;
@@ -205,7 +205,7 @@ sets_end all i old here new none draft accesses current marks h = h.so new (subs
 }))
 
 -- as the code comes to it: the log it looks at is that of the begin
-pub sets_next : (all : List Change) (i : ℕ) (old here mid next : Building) (c : Change) → i < length here.values.log.items → c ≡ get_or here.values.log.items i c → next ≡ mid → SetsRegister here mid c.register → SetsFrom all i old here → SetsFrom all (i + 1) old next
+pub sets_next : (all : List Change) (i : ℕ) (old here mid next : Building) (c : Change) → i < length here.values.log.items → c ≡ get_or here.values.log.items i c → next ≡ mid → SetsGivenRegister here mid c.register → SetsFrom all i old here → SetsFrom all (i + 1) old next
 sets_next all i old here mid next c within is made s h =
     subst (λ (b : Building). SetsFrom all (i + 1) old b) (sym made)
     (sets_turn all i old here mid c (subst (λ (l : List Change). i < length l) h.log within) (is ∙ ap (λ (l : List Change). get_or l i c) h.log) s h)

@@ -13,7 +13,7 @@ use Rattle.dh_expressions.proofs.Pushing.{extends_again, extends_self}
 use Rattle.dh_commands.specs.declared.buildings.Building.{Building}
 use Rattle.dh_laid.specs.LaidAccesses.{touched_count}
 use Rattle.dh_gathering.specs.declared.blocks.Made.{Made}
-use Rattle.dh_gathering.specs.Growing.{AreAllLaid, AreOwned, Grows, IsAtRest, IsClear, NamesFew, place_in, registers_given}
+use Rattle.dh_gathering.specs.Growing.{AreAllLaid, AreOwned, MadeBlocksGrow, IsAtRest, IsClear, NamesFew, block_place_in, registers_given}
 use Rattle.dh_gathering.specs.MadeBlocks.{BlockStandsAt}
 
 not_more : (a b c : ℕ) → a ≤ b → b ≤ c → a ≤ c
@@ -34,14 +34,14 @@ few_then a b c h k = (
     both : (f g h l m n : ℕ) → g + l ≤ f + m → h + m ≤ g + n → h + l ≤ f + n
     both f g h l m n e k = omega (arith, e, k)
 
-pub grows_none : (m : Made) → Grows m m
+pub grows_none : (m : Made) → MadeBlocksGrow m m
 grows_none m = record { draft = extends_self m.building.draft; starts = omega arith; places = λ block within. refl; registers = λ register k at. at; flags = λ register k at. inl at; variables = refl; few = few_none m.building }
 
 flags_then : {X Y Z : Type 0} → (Y → X ⊎ Z) → Y ⊎ Z → X ⊎ Z
 flags_then f (inl y) = f y
 flags_then f (inr z) = inr z
 
-pub grows_then : (a b c : Made) → Grows a b → Grows b c → Grows a c
+pub grows_then : (a b c : Made) → MadeBlocksGrow a b → MadeBlocksGrow b c → MadeBlocksGrow a c
 grows_then a b c h k = record {
   draft = extends_again a.building.draft b.building.draft c.building.draft h.draft k.draft;
   starts = not_more (length a.starts.items) (length b.starts.items) (length c.starts.items) h.starts k.starts;
@@ -77,7 +77,7 @@ module _ (old new : Made) (h : AddsBlock old new) where
       more n = omega arith
 
   -- a start that was there before, the new one, and what lies behind
-  place_before : (block : ℕ) → block < length old.starts.items → place_in new block ≡ place_in old block
+  place_before : (block : ℕ) → block < length old.starts.items → block_place_in new block ≡ block_place_in old block
   place_before block within =
       ap (λ (l : List ℕ). slice_index_or l block (length new.building.draft.operations.items)) h.starts
       ∙ (get_or-append old.starts.items (here ∷ []) (length new.building.draft.operations.items) block within
@@ -94,33 +94,33 @@ module _ (old new : Made) (h : AddsBlock old new) where
           fewer : (n m : ℕ) → suc n < suc m → n < m
           fewer n m l = omega (arith, l)
 
-  place_here : place_in new (length old.starts.items) ≡ here
+  place_here : block_place_in new (length old.starts.items) ≡ here
   place_here =
       ap (λ (l : List ℕ). slice_index_or l (length old.starts.items) (length new.building.draft.operations.items)) h.starts
       ∙ get_or-append_seam old.starts.items here [] (length new.building.draft.operations.items)
 
-  place_old_end : place_in old (length old.starts.items) ≡ here
+  place_old_end : block_place_in old (length old.starts.items) ≡ here
   place_old_end = get_or-eq_default old.starts.items here (same (length old.starts.items))
     where
       same : (n : ℕ) → n ≤ n
       same n = omega arith
 
-  pub place_past : (block : ℕ) → suc (length old.starts.items) ≤ block → place_in new block ≡ length new.building.draft.operations.items
+  pub place_past : (block : ℕ) → suc (length old.starts.items) ≤ block → block_place_in new block ≡ length new.building.draft.operations.items
   place_past block past = get_or-eq_default new.starts.items (length new.building.draft.operations.items) (subst (λ (n : ℕ). n ≤ block) (sym one_longer) past)
 
-  places_same : (block : ℕ) → block ≤ length old.starts.items → place_in new block ≡ place_in old block
+  places_same : (block : ℕ) → block ≤ length old.starts.items → block_place_in new block ≡ block_place_in old block
   places_same block within = by (cases_lt block (length old.starts.items))
     where
       last : (n m : ℕ) → n ≤ m → m ≤ n → n ≡ m
       last n m a b = omega (arith, a, b)
 
-      by : (block < length old.starts.items) ⊎ (length old.starts.items ≤ block) → place_in new block ≡ place_in old block
+      by : (block < length old.starts.items) ⊎ (length old.starts.items ≤ block) → block_place_in new block ≡ block_place_in old block
       by (inl less) = place_before block less
       by (inr past) =
           let is : block ≡ length old.starts.items = last block (length old.starts.items) within past in
-          subst (λ (n : ℕ). place_in new n ≡ place_in old n) (sym is) (place_here ∙ sym place_old_end)
+          subst (λ (n : ℕ). block_place_in new n ≡ block_place_in old n) (sym is) (place_here ∙ sym place_old_end)
 
-  pub block_grows : Grows old new
+  pub block_grows : MadeBlocksGrow old new
   block_grows = record {
     draft = h.draft;
     starts = subst (λ (n : ℕ). length old.starts.items ≤ n) (sym one_longer) (next (length old.starts.items));
@@ -154,14 +154,14 @@ module _ (old new : Made) (h : AddsBlock old new) where
       within : (n m : ℕ) → n < m → n ≤ m
       within n m l = omega (arith, l)
 
-      rising : (block : ℕ) → place_in new block ≤ place_in new (suc block)
+      rising : (block : ℕ) → block_place_in new block ≤ block_place_in new (suc block)
       rising block = by (cases_lt block (length old.starts.items))
         where
-          by : (block < length old.starts.items) ⊎ (length old.starts.items ≤ block) → place_in new block ≤ place_in new (suc block)
+          by : (block < length old.starts.items) ⊎ (length old.starts.items ≤ block) → block_place_in new block ≤ block_place_in new (suc block)
           by (inl less) =
-              subst (λ (n : ℕ). n ≤ place_in new (suc block)) (sym (places_same block (within block (length old.starts.items) less)))
-              (subst (λ (n : ℕ). place_in old block ≤ n) (sym (places_same (suc block) less)) (rest.rising block))
-          by (inr past) = subst (λ (n : ℕ). place_in new block ≤ n) (sym (place_past (suc block) (more (length old.starts.items) block past))) (at_most (cases_lt (length old.starts.items) block))
+              subst (λ (n : ℕ). n ≤ block_place_in new (suc block)) (sym (places_same block (within block (length old.starts.items) less)))
+              (subst (λ (n : ℕ). block_place_in old block ≤ n) (sym (places_same (suc block) less)) (rest.rising block))
+          by (inr past) = subst (λ (n : ℕ). block_place_in new block ≤ n) (sym (place_past (suc block) (more (length old.starts.items) block past))) (at_most (cases_lt (length old.starts.items) block))
             where
               more : (n m : ℕ) → n ≤ m → suc n ≤ suc m
               more n m l = omega (arith, l)
@@ -169,14 +169,14 @@ module _ (old new : Made) (h : AddsBlock old new) where
               last : (n m : ℕ) → n ≤ m → m ≤ n → m ≡ n
               last n m a b = omega (arith, a, b)
 
-              at_most : (length old.starts.items < block) ⊎ (block ≤ length old.starts.items) → place_in new block ≤ length new.building.draft.operations.items
+              at_most : (length old.starts.items < block) ⊎ (block ≤ length old.starts.items) → block_place_in new block ≤ length new.building.draft.operations.items
               at_most (inl beyond) = subst (λ (n : ℕ). n ≤ length new.building.draft.operations.items) (sym (place_past block beyond)) (same (length new.building.draft.operations.items))
               at_most (inr not_beyond) =
                   let is : block ≡ length old.starts.items = last (length old.starts.items) block past not_beyond in
-                  subst (λ (n : ℕ). place_in new n ≤ length new.building.draft.operations.items) (sym is)
+                  subst (λ (n : ℕ). block_place_in new n ≤ length new.building.draft.operations.items) (sym is)
                   (subst (λ (n : ℕ). n ≤ length new.building.draft.operations.items) (sym place_here) h.draft.longer)
 
-  pub block_stands : IsAtRest old → (final : Made) → Grows new final → BlockStandsAt final (length old.starts.items) old.building new.building
+  pub block_stands : IsAtRest old → (final : Made) → MadeBlocksGrow new final → BlockStandsAt final (length old.starts.items) old.building new.building
   block_stands rest final more = record {
     begins = more.places (length old.starts.items) (subst (λ (n : ℕ). length old.starts.items ≤ n) (sym one_longer) (next (length old.starts.items))) ∙ place_here;
     ends = more.places (suc (length old.starts.items)) (subst (λ (n : ℕ). suc (length old.starts.items) ≤ n) (sym one_longer) (same (suc (length old.starts.items))))

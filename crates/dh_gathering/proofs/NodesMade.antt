@@ -12,7 +12,7 @@ use Rattle.dh_meaning.specs.CoreOf.{Known, action_form_of, core_phases, core_tes
 use Rattle.dh_meaning.specs.Phases.{Located, straight, turns, repeated, decided, no_phases, phase, of_list, phases, phases_of}
 use Rattle.dh_meaning.specs.Sites.{nothing_around}
 use Rattle.dh_plan.specs.declared.plans.Node as declared
-use Rattle.dh_plan.specs.Correspondence.{Round}
+use Rattle.dh_plan.specs.Correspondence.{Round, loops_round}
 use Rattle.dh_plan.specs.PlainPlans.{Node, block_node, turns_node, loop_node, choice_node, Nodes, no_nodes, node_then}
 use Rattle.dh_plan.specs.SeenPlans.{node_seen, nodes_seen}
 use Rattle.dh_code.specs.Slots.{held_at}
@@ -26,10 +26,10 @@ use Rattle.dh_expressions.specs.declared.scenes.Scene.{Scene}
 use Rattle.dh_expressions.specs.Evaluated.{known_in}
 use Rattle.dh_expressions.specs.Levels.{count_inside, levels_inside}
 use Rattle.dh_gathering.specs.declared.blocks.Made.{Made}
-use Rattle.dh_gathering.specs.Growing.{Grows, IsAtRest}
+use Rattle.dh_gathering.specs.Growing.{MadeBlocksGrow, IsAtRest}
 use Rattle.dh_gathering.specs.OpenAccesses.{AreOpen, AreUntouched, TouchesWithin}
 use Rattle.dh_gathering.specs.PhasesInLoops.{TestOf}
-use Rattle.dh_gathering.specs.PlacedPhases.{ArePlaced, loops_round}
+use Rattle.dh_gathering.specs.PlacedPhases.{ArePlacedPhases}
 use Rattle.dh_gathering.specs.RisingPhases.{CommandsRise, PhasesRise, behind_command, behind_test}
 use Rattle.dh_gathering.specs.MadeBlocks.{IsTestBlock}
 use Rattle.dh_gathering.specs.Gathered.{AreLocated, CanMake, MakesBody, MakesNodeIn, MakesNodes, MakesNodesIn, MakesStraightIn, MakesTestIn}
@@ -133,9 +133,9 @@ own_of_test (counts iterator declared low high factor body combine combine_place
 
 -- the test of a command has its block, and the rest can be made behind it
 record IsTested (scene : Scene) (rounds : List Round) (paths : Paths) (old tested : Made) (l : Located) (flag block first last : ℕ) : Type 0 where
-  grows : Grows old tested
+  grows : MadeBlocksGrow old tested
   touches : TouchesWithin old.building.accesses tested.building.accesses first (behind_test l)
-  made : (final : Made) → Grows tested final → IsTestBlock scene final rounds (core_test (known_in scene) l) flag block
+  made : (final : Made) → MadeBlocksGrow tested final → IsTestBlock scene final rounds (core_test (known_in scene) l) flag block
   left : CanMake scene rounds paths tested (behind_test l) last
 
 module _ (scene : Scene) (rounds : List Round) (paths : Paths) (old tested : Made) (c : Numbered) (l : Located) (t : tree.Term) (flag block first last : ℕ) (can : CanMake scene rounds paths old first last)
@@ -213,7 +213,7 @@ module _ (scene : Scene) where
             few = can.few;
             bare = can.bare;
           })
-          (subst (λ (ls : List Turning). ArePlaced known_here program_here ls qs) (sym (loops_more rounds r)) (placed_turns known_here program_here (loops_round rounds) loop n qs placed)) are rise
+          (subst (λ (ls : List Turning). ArePlacedPhases known_here program_here ls qs) (sym (loops_more rounds r)) (placed_turns known_here program_here (loops_round rounds) loop n qs placed)) are rise
 
   -- a `while`
   pub loop_made : (paths : Paths) (old tested new : Made) (c : Numbered) (t : tree.Term) (flag block : ℕ) (body : AllGathered) (nodes : Nodes) → MakesTestIn scene paths old tested c.first t flag block → MakesNodesIn scene paths tested new body nodes
@@ -311,6 +311,6 @@ module _ (scene : Scene) where
       made =
           makes [] (of_list (phases nothing_around 0 body)) 0 (accesses_of body)
           (record { inside = record { told = told; inside = record { within = (levels, count); some = subst (λ (n : ℕ). 0 < n) (sym count) (omega arith) } }; rest = rest; few = few; bare = bare })
-          (subst (λ (b : Action). ArePlaced known_here program_here [] (of_list (phases nothing_around 0 b))) (sym body_is) (all_placed known_here program_here))
+          (subst (λ (b : Action). ArePlacedPhases known_here program_here [] (of_list (phases nothing_around 0 b))) (sym body_is) (all_placed known_here program_here))
           (list_matches ps (phases nothing_around 0 body) are)
           (subst (λ (n : ℕ). PhasesRise 0 n (of_list (phases nothing_around 0 body))) (zero-add (accesses_of body)) (phases_rise nothing_around 0 body))

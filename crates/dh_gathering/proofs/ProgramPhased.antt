@@ -25,11 +25,11 @@ use Rattle.dh_commands.specs.Undone.{NoneGiven}
 use Rattle.dh_laid.specs.LaidAccesses.{touched_count}
 use Rattle.dh_gathering.specs.declared.blocks.Made.{Made}
 use Rattle.dh_gathering.specs.declared.making.Phased.{Phased}
-use Rattle.dh_gathering.specs.Cutting.{AreBlocksOf, IsCut}
+use Rattle.dh_gathering.specs.Cutting.{AreBlocksOf, IsCutAtStarts}
 use Rattle.dh_gathering.specs.Gathered.{HasNodes, MakesBody, MakesNodes}
-use Rattle.dh_gathering.specs.Growing.{place_in, registers_given}
+use Rattle.dh_gathering.specs.Growing.{block_place_in, registers_given}
 use Rattle.dh_gathering.specs.NamedOnce.{NamesOnce}
-use Rattle.dh_gathering.specs.ProgramMade.{Begins, MakesPhased}
+use Rattle.dh_gathering.specs.ProgramMade.{MakingBegins, MakesPhased}
 use Rattle.dh_gathering.specs.Registers.{AreRegisters, HaveKinds, first_among}
 use Rattle.dh_gathering.proofs.AccessesOpen.{untouched_part}
 use Rattle.dh_gathering.proofs.BlocksPlanned.{none_clear, rest_rises}
@@ -49,7 +49,7 @@ untouched_in : (a : Accesses) (many number : ℕ) → IsUntouched a many → tou
 untouched_in a many number h = ap (λ (l : List (Option Touched)). touched_of (slice_get l number)) h.touched ∙ none_replicate many number
 
 pub begins_made : (m : Made) (registers : List Kind) (count many : ℕ) → m.building.draft.operations.items ≡ [] → m.building.draft.faults ≡ [] → m.starts.items ≡ [] → IsUntouched m.building.accesses many → NoneGiven m.building.values count → count ≡ length registers → m.registers ≡ registers
-    → Begins registers many m
+    → MakingBegins registers many m
 begins_made m registers count many no_operation no_fault no_start untouched none is are = record {
   rest = record {
     clear = none_clear m.building.values count none;
@@ -62,7 +62,7 @@ begins_made m registers count many no_operation no_fault no_start untouched none
     };
     counts = λ b. ap (λ (l : List ℕ). slice_index l b) untouched.counts;
     first = place 0;
-    rising = λ block. subst (λ (n : ℕ). n ≤ place_in m (suc block)) (sym (place block)) (least (place_in m (suc block)));
+    rising = λ block. subst (λ (n : ℕ). n ≤ block_place_in m (suc block)) (sym (place block)) (least (block_place_in m (suc block)));
     variables = subst (λ (n : ℕ). n ≤ length m.registers) (sym (replicate_given m count none ∙ is)) (subst (λ (l : List Kind). length registers ≤ length l) (sym are) (same (length registers)));
   };
   untouched = λ number from to. (
@@ -88,7 +88,7 @@ begins_made m registers count many no_operation no_fault no_start untouched none
     same : (n : ℕ) → n ≤ n
     same n = omega arith
 
-    place : (block : ℕ) → place_in m block ≡ 0
+    place : (block : ℕ) → block_place_in m block ≡ 0
     place block = ap (λ (l : List ℕ). slice_index_or l block (length m.building.draft.operations.items)) no_start ∙ ap (λ (l : List Operation). length l) no_operation
 
 count_within : (ts : List (Option Touched)) → touched_count ts ≤ length ts
@@ -100,8 +100,8 @@ all_few : (p f g l m n : ℕ) → p ≡ f → g ≡ 0 → f + l ≤ g + m → m 
 all_few p f g l m n e z h k = omega (arith, e, z, h, k)
 
 -- what is made in the end, by what the code takes of it
-pub makes_phased : (scene : Scene) (count : ℕ) (body : Action) (begun final : Made) (variables : List Kind) (paths : Paths) (blocks : List PlanBlock) (p : Phased) → AreRegisters (program_seen scene.program.now) scene.held.now count variables → Begins variables (length scene.shares.now) begun
-    → paths.levels.items ≡ [] → paths.count ≡ 1 → MakesBody scene paths begun final body (nodes_seen p.nodes.items) → NamesOnce begun final (blocks_of (nodes_seen p.nodes.items)) → IsCut final.building.draft.operations.items final.starts.items blocks
+pub makes_phased : (scene : Scene) (count : ℕ) (body : Action) (begun final : Made) (variables : List Kind) (paths : Paths) (blocks : List PlanBlock) (p : Phased) → AreRegisters (program_seen scene.program.now) scene.held.now count variables → MakingBegins variables (length scene.shares.now) begun
+    → paths.levels.items ≡ [] → paths.count ≡ 1 → MakesBody scene paths begun final body (nodes_seen p.nodes.items) → NamesOnce begun final (blocks_of (nodes_seen p.nodes.items)) → IsCutAtStarts final.building.draft.operations.items final.starts.items blocks
     → p.blocks ≡ blocks → p.registers ≡ final.registers → p.faults ≡ final.building.draft.faults → MakesPhased scene count body p
 makes_phased scene count body begun final variables paths blocks p registers begins levels one makes each cuts blocks_are registers_are faults_are told known few body_is successive = record {
   final = final;

@@ -4,12 +4,11 @@ use Rattle.std.specs.Prelude.{Option, nat_le}
 use Rattle.dh_tree.specs.PlainTrees.{ActionForm, lets, lets_memory, views, assigns, stores, reduces, calls, blocks, decides, repeats, counts}
 use Rattle.dh_meaning.specs.Core.{Turning}
 use Rattle.dh_meaning.specs.CoreOf.{Known, entity_number, turning_of}
-use Rattle.dh_plan.specs.Correspondence.{Round}
+use Rattle.dh_plan.specs.Correspondence.{Round, loops_round}
 use Rattle.dh_phases.specs.GatheredPhases.{Header, header_of}
 use Rattle.dh_expressions.specs.declared.paths.Level.{Level}
 use Rattle.dh_expressions.specs.declared.paths.Paths.{Paths}
 use Rattle.dh_expressions.specs.Levels.{count_inside, levels_inside}
-use Rattle.dh_gathering.specs.PlacedPhases.{loops_round}
 use Rattle.dh_gathering.specs.MadeBlocks.{ArePathsOf, AreWithin}
 
 rounds_more : (levels : List Level) (count : ℕ) (rounds : List Round) (inner : List Level) (paths : ℕ) (r : Round) (entity : Option ℕ) → entity ≡ Some r.loop.iterator → AreWithin levels count rounds inner paths

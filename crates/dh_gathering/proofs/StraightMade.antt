@@ -41,7 +41,7 @@ use Rattle.dh_laid.proofs.CommandsNumbered.{reaching_number}
 use Rattle.dh_laid.proofs.FaultsOwn.{faults_grow}
 use Rattle.dh_gathering.specs.declared.blocks.Made.{Made}
 use Rattle.dh_gathering.specs.Growing.{AreAllLaid, AreOwned, IsAtRest, IsClear, NamesFew}
-use Rattle.dh_gathering.specs.MadeBlocks.{AreFew, AreInside, ArePathsOf, DoesCommands, SetsGiven, BlockStandsAt}
+use Rattle.dh_gathering.specs.MadeBlocks.{AccessNumbersAreFew, ArePathsInside, ArePathsOf, DoesCommands, SetsGiven, BlockStandsAt}
 use Rattle.dh_gathering.specs.OpenAccesses.{AreOpen, AreUntouched, TouchesWithin}
 use Rattle.dh_gathering.specs.PushedSets.{SetsLogged, settings}
 use Rattle.dh_gathering.specs.Gathered.{AreLocated, DoesNumbered, MakesStraight, MakesStraightIn}
@@ -232,7 +232,7 @@ settings_faultless : (ss : List (ℕ × ℕ)) → AllByRecursion (λ (o : Operat
 settings_faultless [] = tt
 settings_faultless (s ∷ ss) = (tt, settings_faultless ss)
 
-pub few_located : (items : List Numbered) (ls : List source.Located) → AreLocated items ls → AllByRecursion AreFew ls
+pub few_located : (items : List Numbered) (ls : List source.Located) → AreLocated items ls → AllByRecursion AccessNumbersAreFew ls
 few_located [] [] beside = tt
 few_located [] (l ∷ ls) beside = absurd beside
 few_located (c ∷ cs) [] beside = absurd beside
@@ -259,7 +259,7 @@ module _ (scene : Scene) (paths : Paths) (old new : Made) (between after : Build
     (does : DoesNumbered scene around items old.building between) (sets : SetsLogged between after)
     (building : new.building ≡ after) (starts : new.starts.items ≡ old.starts.items ++ start ∷ []) (registers : new.registers ≡ old.registers)
     (number_is : block ≡ length old.starts.items) (start_is : start ≡ length old.building.draft.operations.items) where
-  module _ (rounds : List Round) (first last : ℕ) (inside : AreInside scene rounds paths) (rest : IsAtRest old) (few : AllByRecursion (λ c. c.first + accesses_of c.command < 2 ^ 32) items)
+  module _ (rounds : List Round) (first last : ℕ) (inside : ArePathsInside scene rounds paths) (rest : IsAtRest old) (few : AllByRecursion (λ c. c.first + accesses_of c.command < 2 ^ 32) items)
       (reach : AllByRecursion (λ c. StoresReach c.command) items) (bare : AreOpen old.building.accesses first last items) where
     some : 0 < paths_counted around
     some = some_counted around paths.count guards inside.inside.some

@@ -33,10 +33,10 @@ use Rattle.dh_laid.proofs.AccessesLaid.{lays_again, lays_quiet, tests_lay}
 use Rattle.dh_laid.proofs.CommandsNumbered.{tests_number}
 use Rattle.dh_laid.proofs.FaultsOwn.{faultless_again, faultless_pushed}
 use Rattle.dh_gathering.specs.declared.blocks.Made.{Made}
-use Rattle.dh_gathering.specs.Growing.{Grows, IsAtRest, IsClear, registers_given}
-use Rattle.dh_gathering.specs.MadeBlocks.{AddsFlag, AreInside, ArePathsOf, IsFlagOf, PutsFlag, SetsFlag, BlockStandsAt}
+use Rattle.dh_gathering.specs.Growing.{MadeBlocksGrow, IsAtRest, IsClear, registers_given}
+use Rattle.dh_gathering.specs.MadeBlocks.{AddsFlag, ArePathsInside, ArePathsOf, IsFlagOf, PutsFlag, SetsTestFlag, BlockStandsAt}
 use Rattle.dh_gathering.specs.OpenAccesses.{AreUntouched, TouchesWithin}
-use Rattle.dh_gathering.specs.Gathered.{MakesTest, MakesTestIn, SetsFirst}
+use Rattle.dh_gathering.specs.Gathered.{MakesFlaggedTest, MakesTestIn, SetsFirst}
 use Rattle.dh_gathering.proofs.MadeGrows.{AddsBlock, block_grows, block_rests, block_stands}
 use Rattle.dh_gathering.proofs.StraightMade.{bare_from, few_counted, laid_later, owned_later, some_counted}
 
@@ -62,7 +62,7 @@ module _ (scene : Scene) (around : Around) where
       none = λ register. ap (λ (os : List (Option ℕ)). given_at os register) same_current ∙ clear.none register;
     }
 
-pub flag_extends : (old new : Draft) (t : tree.Term) (value flag : ℕ) → SetsFlag old new t value flag → Extends old new
+pub flag_extends : (old new : Draft) (t : tree.Term) (value flag : ℕ) → SetsTestFlag old new t value flag → Extends old new
 flag_extends old new t value flag h = extends_again old h.mid new h.gives.extends (pushed_extends h.mid new h.number None (Set flag h.made) h.set)
 
 -- a flag names no fault
@@ -97,7 +97,7 @@ module _ (scene : Scene) (paths : Paths) (old new : Made) (between : Building) (
     (levels : around.levels.now ≡ paths.levels.items) (guards : around.guards.now ≡ replicate paths.count None) (low : length around.levels.now < 2 ^ 63) (many : paths.count < 2 ^ 63)
     (does : TestsAll scene around old.building between n next t tests) (made : MadeTests scene around n t (paths_counted around) old.building between next tests) where
   -- there is a value
-  pub never_none : (rounds : List Round) → AreInside scene rounds paths → slice_get tests 0 ≡ None → ⊥
+  pub never_none : (rounds : List Round) → ArePathsInside scene rounds paths → slice_get tests 0 ≡ None → ⊥
   never_none rounds inside none = by tests does.long (some_counted around paths.count guards inside.inside.some) none
     where
       zero_none : (n : ℕ) → 0 ≡ n → 0 < n → ⊥
@@ -111,7 +111,7 @@ module _ (scene : Scene) (paths : Paths) (old new : Made) (between : Building) (
       (draft_is : new.building.draft ≡ draft) (accesses_are : new.building.accesses ≡ between.accesses) (values_are : new.building.values ≡ between.values)
       (starts : new.starts.items ≡ old.starts.items ++ start ∷ []) (registers : new.registers ≡ old.registers ++ kind.Bool ∷ [])
       (flag_is : flag ≡ length old.registers) (number_is : block ≡ length old.starts.items) (start_is : start ≡ length old.building.draft.operations.items) where
-    module _ (rounds : List Round) (inside : AreInside scene rounds paths) (rest : IsAtRest old) (few : n + term_accesses t < 2 ^ 32) (bare : AreUntouched old.building.accesses n (n + term_accesses t)) where
+    module _ (rounds : List Round) (inside : ArePathsInside scene rounds paths) (rest : IsAtRest old) (few : n + term_accesses t < 2 ^ 32) (bare : AreUntouched old.building.accesses n (n + term_accesses t)) where
       stands_in : BlockStandsIn scene around
       stands_in = record { scopes = inside.told.scopes; low = low; few = few_counted around paths.count guards many }
 
@@ -152,13 +152,13 @@ module _ (scene : Scene) (paths : Paths) (old new : Made) (between : Building) (
         counts = lays.none rest.counts;
       }
 
-      is_flag : (final : Made) → Grows new final → IsFlagOf final flag
+      is_flag : (final : Made) → MadeBlocksGrow new final → IsFlagOf final flag
       is_flag final more = record {
         truth = more.registers flag kind.Bool (ap (λ (l : List Kind). slice_get l flag) registers ∙ (ap (λ (i : ℕ). slice_get (old.registers ++ kind.Bool ∷ []) i) flag_is ∙ at_seam old.registers kind.Bool));
         fresh = subst (λ (m : ℕ). m ≤ flag) (sym (more.variables ∙ variables)) (subst (λ (m : ℕ). registers_given old ≤ m) (sym flag_is) rest.variables);
       }
 
-      pub test_made : MakesTest scene rounds old new n t flag block
+      pub test_made : MakesFlaggedTest scene rounds old new n t flag block
       test_made = record {
         grows = block_grows old new adds;
         rest = block_rests old new adds rest;
@@ -183,7 +183,7 @@ module _ (scene : Scene) (paths : Paths) (old new : Made) (between : Building) (
           accesses = accesses_are;
           values = values_are;
           first = first;
-          sets = subst (λ (d : Draft). SetsFlag between.draft d t value flag) (sym draft_is) puts.0;
+          sets = subst (λ (d : Draft). SetsTestFlag between.draft d t value flag) (sym draft_is) puts.0;
           adds = subst (λ (d : Draft). AddsFlag (is_read_term t) between.draft d value flag) (sym draft_is) puts.1;
           is_flag = is_flag final more;
         };

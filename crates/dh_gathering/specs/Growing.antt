@@ -25,8 +25,8 @@ pub record IsClear (v : Values) : Type 0 where
 abbrev pub place_among : List Operation → (starts : List ℕ) → (block : ℕ) → ℕ
 place_among operations starts block = slice_index_or starts block (length operations)
 
-abbrev pub place_in : Made → (block : ℕ) → ℕ
-place_in m block = place_among m.building.draft.operations.items m.starts.items block
+abbrev pub block_place_in : Made → (block : ℕ) → ℕ
+block_place_in m block = place_among m.building.draft.operations.items m.starts.items block
 
 -- how many registers variables have
 abbrev pub registers_given : Made → ℕ
@@ -52,16 +52,16 @@ pub record IsAtRest (m : Made) : Type 0 where
   pub laid : AreAllLaid m.building
   pub owned : AreOwned m.building
   pub counts : AreNone m.building.accesses.counts.items
-  pub first : place_in m 0 ≡ 0
-  pub rising : (block : ℕ) → place_in m block ≤ place_in m (suc block)
+  pub first : block_place_in m 0 ≡ 0
+  pub rising : (block : ℕ) → block_place_in m block ≤ block_place_in m (suc block)
   pub variables : registers_given m ≤ length m.registers
 
 -- more behind what was made
-pub record Grows (old new : Made) : Type 0 where
+pub record MadeBlocksGrow (old new : Made) : Type 0 where
   pub draft : Extends old.building.draft new.building.draft
   pub starts : length old.starts.items ≤ length new.starts.items
   -- a block that was begun or is to be begun next begins where it did
-  pub places : (block : ℕ) → block ≤ length old.starts.items → place_in new block ≡ place_in old block
+  pub places : (block : ℕ) → block ≤ length old.starts.items → block_place_in new block ≡ block_place_in old block
   pub registers : (register : ℕ) (k : Kind) → slice_get old.registers register ≡ Some k → slice_get new.registers register ≡ Some k
   -- those that are added are flags
   pub flags : (register : ℕ) (k : Kind) → slice_get new.registers register ≡ Some k → (slice_get old.registers register ≡ Some k) ⊎ (k ≡ kind.Bool)

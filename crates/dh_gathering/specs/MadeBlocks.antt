@@ -14,7 +14,7 @@ use Rattle.dh_meaning.specs.Phases.{Located, phases_of}
 use Rattle.dh_tree.specs.Seen.{program_seen}
 use Rattle.dh_code.specs.Slots.{held_at}
 use Rattle.dh_plan.specs.declared.operations.OperationForm.TheVariants.{Compute, Set}
-use Rattle.dh_plan.specs.Correspondence.{Round}
+use Rattle.dh_plan.specs.Correspondence.{Round, loops_round}
 use Rattle.dh_plan.specs.PlanPhases.{Tie}
 use Rattle.dh_expressions.specs.declared.drafts.Draft.{Draft}
 use Rattle.dh_expressions.specs.declared.paths.Level.{Level}
@@ -38,9 +38,8 @@ use Rattle.dh_laid.specs.LaidAccesses.{AreLaid}
 use Rattle.dh_laid.specs.LaidNumbers.{StoresReach}
 use Rattle.dh_laid.specs.LaidQuiet.{BlockStandsIn}
 use Rattle.dh_gathering.specs.declared.blocks.Made.{Made}
-use Rattle.dh_gathering.specs.Growing.{IsClear, place_in, registers_given}
+use Rattle.dh_gathering.specs.Growing.{IsClear, block_place_in, registers_given}
 use Rattle.dh_gathering.specs.PhasesInLoops.{StraightOf, TestOf}
-use Rattle.dh_gathering.specs.PlacedPhases.{loops_round}
 use Rattle.dh_gathering.specs.PushedSets.{SetsLogged, settings}
 
 -- Paths.
@@ -62,7 +61,7 @@ pub record IsTold (scene : Scene) : Type 0 where
   pub stores : (loops : List Turning) (cs : List Located) → StraightOf (known_in scene) [] (phases_of (program_seen scene.program.now)) loops cs → AllByRecursion (λ c. StoresReach c.command) cs
 
 -- these loops have these paths, in a program of which that is told
-pub record AreInside (scene : Scene) (rounds : List Round) (paths : Paths) : Type 0 where
+pub record ArePathsInside (scene : Scene) (rounds : List Round) (paths : Paths) : Type 0 where
   pub told : IsTold scene
   pub inside : ArePathsOf rounds paths.levels.items paths.count
 
@@ -78,8 +77,8 @@ pub record IsRoundBlock (rounds : List Round) (around : Around) : Type 0 where
 
 -- where a block begins and ends: it is all that was added from one building to another
 pub record BlockStandsAt (final : Made) (block : ℕ) (before after : Building) : Type 0 where
-  pub begins : place_in final block ≡ length before.draft.operations.items
-  pub ends : place_in final (suc block) ≡ length after.draft.operations.items
+  pub begins : block_place_in final block ≡ length before.draft.operations.items
+  pub ends : block_place_in final (suc block) ≡ length after.draft.operations.items
   pub there : suc block ≤ length final.starts.items
   pub kept : Extends after.draft final.building.draft
   -- as it begins no variable is given a value, and those that can be are the same as ever
@@ -93,8 +92,8 @@ DoesCommands scene around (l ∷ ls) old new =
     (mid : Building) × ((next : ℕ) × (DoesCommand scene around l.command l.first next old mid × DoesCommands scene around ls mid new))
 
 -- the numbers of a command's accesses are few
-abbrev pub AreFew : Located → Type 0
-AreFew l = l.first + accesses_of l.command < 2 ^ 32
+abbrev pub AccessNumbersAreFew : Located → Type 0
+AccessNumbersAreFew l = l.first + accesses_of l.command < 2 ^ 32
 
 -- it is among these
 abbrev pub IsAmong : {A : Type 0} → List A → A → Type 0
@@ -117,7 +116,7 @@ pub record MadeStraight (scene : Scene) (final : Made) (rounds : List Round) (ls
   pub between : Building
   pub after : Building
   pub stands : BlockStandsAt final block before after
-  pub few : AllByRecursion AreFew ls
+  pub few : AllByRecursion AccessNumbersAreFew ls
   pub does : DoesCommands scene around ls before between
   -- exactly what was put down
   pub stands_in : BlockStandsIn scene around
@@ -137,7 +136,7 @@ abbrev pub flag_shown : plain.Term → Word → Word
 flag_shown t w = if is_read_term t then binary_of Both w w else w
 
 -- a flag is set to the value of a test
-pub record SetsFlag (old new : Draft) (t : plain.Term) (value flag : ℕ) : Type 0 where
+pub record SetsTestFlag (old new : Draft) (t : plain.Term) (value flag : ℕ) : Type 0 where
   pub mid : Draft
   pub made : ℕ
   pub number : ℕ
@@ -151,7 +150,7 @@ AddsFlag false old new value flag = (number : ℕ) × Pushes old new number None
 
 -- so is a flag put down
 abbrev pub PutsFlag : (old new : Draft) → plain.Term → (value flag : ℕ) → Type 0
-PutsFlag old new t value flag = SetsFlag old new t value flag × AddsFlag (is_read_term t) old new value flag
+PutsFlag old new t value flag = SetsTestFlag old new t value flag × AddsFlag (is_read_term t) old new value flag
 
 -- a flag is a truth, and the register of no variable
 pub record IsFlagOf (final : Made) (flag : ℕ) : Type 0 where
@@ -180,7 +179,7 @@ pub record MadeTest (scene : Scene) (final : Made) (rounds : List Round) (n : �
   pub accesses : after.accesses ≡ between.accesses
   pub values : after.values ≡ between.values
   pub first : slice_get tests 0 ≡ Some value
-  pub sets : SetsFlag between.draft after.draft t value flag
+  pub sets : SetsTestFlag between.draft after.draft t value flag
   pub adds : AddsFlag (is_read_term t) between.draft after.draft value flag
   pub is_flag : IsFlagOf final flag
 

@@ -23,7 +23,7 @@ use Rattle.dh_gathering.specs.MadeBlocks.{BlockStandsAt, made_tie}
 use Rattle.dh_gathering.specs.Registers.{AreSuccessive, HaveKinds}
 
 -- a block that was cut out is all that was put down for it, from a begin at which no variable was given a value
-pub record IsWhole (final : Made) (blocks : List PlanBlock) (block : ℕ) (before after : Building) : Type 0 where
+pub record IsWholeBlock (final : Made) (blocks : List PlanBlock) (block : ℕ) (before after : Building) : Type 0 where
   pub first : operations_before blocks block ≡ length before.draft.operations.items
   pub own : block_operations (slice_get blocks block) ≡ drop (length before.draft.operations.items) after.draft.operations.items
   pub none : NoneGiven before.values (registers_given final)
@@ -31,7 +31,7 @@ pub record IsWhole (final : Made) (blocks : List PlanBlock) (block : ℕ) (befor
 abbrev pub BlocksAreWhole : Type 0
 BlocksAreWhole =
     (final : Made) (blocks : List PlanBlock) (block : ℕ) (before after : Building) → AreBlocksOf final.building.draft.operations.items final.starts.items blocks → BlockStandsAt final block before after
-    → IsWhole final blocks block before after
+    → IsWholeBlock final blocks block before after
 
 -- the counter of each loop of nodes is no variable's register, and no counter of a loop round it
 abbrev pub CountersAreApart : Type 0

@@ -8,14 +8,14 @@ listed number [] = 0
 listed number (n ∷ ns) = (if number == n then 1 else 0) + listed number ns
 
 -- 1 where a block is among so many, else 0
-abbrev pub begun : (block starts : ℕ) → ℕ
-begun block zero = 0
-begun zero (suc n) = 1
-begun (suc block) (suc n) = begun block n
+abbrev pub times_begun : (block starts : ℕ) → ℕ
+times_begun block zero = 0
+times_begun zero (suc n) = 1
+times_begun (suc block) (suc n) = times_begun block n
 
-abbrev pub begun_in : Made → (block : ℕ) → ℕ
-begun_in m block = begun block (length m.starts.items)
+abbrev pub times_begun_in : Made → (block : ℕ) → ℕ
+times_begun_in m block = times_begun block (length m.starts.items)
 
 -- Between these two, each block that begins is listed once, and no other.
 abbrev pub NamesOnce : (old new : Made) → List ℕ → Type 0
-NamesOnce old new blocks = (block : ℕ) → listed block blocks + begun_in old block ≡ begun_in new block
+NamesOnce old new blocks = (block : ℕ) → listed block blocks + times_begun_in old block ≡ times_begun_in new block

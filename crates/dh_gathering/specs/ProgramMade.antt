@@ -24,7 +24,7 @@ use Rattle.dh_gathering.specs.OpenAccesses.{AreUntouched}
 use Rattle.dh_gathering.specs.Registers.{AreSuccessive, HasRegisterKind, first_among}
 
 -- nothing is made yet, but for the registers of variables; so many accesses have no operations
-pub record Begins (registers : List Kind) (count : ℕ) (m : Made) : Type 0 where
+pub record MakingBegins (registers : List Kind) (count : ℕ) (m : Made) : Type 0 where
   pub rest : IsAtRest m
   pub untouched : AreUntouched m.building.accesses 0 count
   pub registers_are : m.registers ≡ registers

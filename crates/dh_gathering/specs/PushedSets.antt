@@ -16,9 +16,9 @@ abbrev pub sets_pushed : List Change → (current : List (Option ℕ)) → List 
 sets_pushed [] current = []
 sets_pushed (c ∷ cs) current = set_of c.register (given_at current c.register) ++ sets_pushed cs (slice_set current c.register None)
 
-abbrev pub cleared : List Change → (current : List (Option ℕ)) → List (Option ℕ)
-cleared [] current = current
-cleared (c ∷ cs) current = cleared cs (slice_set current c.register None)
+abbrev pub cleared_registers : List Change → (current : List (Option ℕ)) → List (Option ℕ)
+cleared_registers [] current = current
+cleared_registers (c ∷ cs) current = cleared_registers cs (slice_set current c.register None)
 
 abbrev pub setting : ℕ × ℕ → Operation
 setting s = record { guard = None; form = Set s.0 s.1 }
@@ -28,7 +28,7 @@ settings [] = []
 settings (s ∷ ss) = setting s ∷ settings ss
 
 -- one register is set, where it was given a value
-pub record SetsRegister (old new : Building) (register : ℕ) : Type 0 where
+pub record SetsGivenRegister (old new : Building) (register : ℕ) : Type 0 where
   pub operations : new.draft.operations.items ≡ old.draft.operations.items ++ settings (set_of register (given_at old.values.current.items register))
   pub faults : new.draft.faults ≡ old.draft.faults
   pub accesses : new.accesses ≡ old.accesses
@@ -41,7 +41,7 @@ pub record SetsChanges (old new : Building) (changes : List Change) : Type 0 whe
   pub operations : new.draft.operations.items ≡ old.draft.operations.items ++ settings (sets_pushed changes old.values.current.items)
   pub faults : new.draft.faults ≡ old.draft.faults
   pub accesses : new.accesses ≡ old.accesses
-  pub current : new.values.current.items ≡ cleared changes old.values.current.items
+  pub current : new.values.current.items ≡ cleared_registers changes old.values.current.items
   pub marks : new.values.marks ≡ old.values.marks
 
 -- all of the log, which is then empty

@@ -6,7 +6,7 @@ ghost use Rattle.dh_tree.specs.Seen.{term_seen};
 ghost use Rattle.dh_phases.specs.GatheredPhases.{numbered_seen};
 ghost use Rattle.dh_gathering.specs.MadeBlocks.{PutsFlag};
 ghost use Rattle.dh_gathering.specs.NamedOnce.{NamesOnce};
-ghost use Rattle.dh_gathering.specs.PushedSets.{SetsLogged, SetsRegister};
+ghost use Rattle.dh_gathering.specs.PushedSets.{SetsLogged, SetsGivenRegister};
 ghost use Rattle.dh_gathering.specs.Gathered.{DoesNumbered, EndsBlock, MakesStraightIn, MakesTestIn, SetsFirst};
 
 use dh_base::{Items, NoMemory};
@@ -41,7 +41,7 @@ fn no_guards(alloc: Global, paths: u64) -> Result<Vec<Option<u64>>, NoMemory>
 
 /// Sets a register, where its variable was given a value in this step.
 fn set_register(building: &mut Building, register: u64) -> Result<(), NoMemory>
-    ensures { OnOk result (SetsRegister building.old building.new register) }
+    ensures { OnOk result (SetsGivenRegister building.old building.new register) }
 {
     let at = register as usize;
     if at < building.values.current.len() {

@@ -1,7 +1,7 @@
 //! The blocks of a plan, cut out of the list of all operations.
 
 ghost use Rattle.std.specs.Prelude.{IfOk};
-ghost use Rattle.dh_gathering.specs.Cutting.{IsCut};
+ghost use Rattle.dh_gathering.specs.Cutting.{IsCutAtStarts};
 
 use dh_base::{Items, NoMemory};
 use dh_plan::{Operation, PlanBlock};
@@ -18,7 +18,7 @@ pub fn cut(
     mut operations: Vec<Operation>,
     starts: &[usize],
 ) -> Result<Items<PlanBlock>, NoMemory>
-    ensures { IfOk result (λ blocks. IsCut operations.items starts.now blocks) }
+    ensures { IfOk result (λ blocks. IsCutAtStarts operations.items starts.now blocks) }
 {
     let mut blocks = Vec::new(alloc);
     for i in (0..starts.len()).rev() {

@@ -2,7 +2,7 @@
 
 ghost use Rattle.std.specs.Prelude.{IfOk, length};
 ghost use Rattle.dh_tree.specs.Seen.{action_seen};
-ghost use Rattle.dh_gathering.specs.ProgramMade.{Begins, MakesPhased};
+ghost use Rattle.dh_gathering.specs.ProgramMade.{MakingBegins, MakesPhased};
 
 use crate::blocks::Made;
 use crate::cutting::cut;
@@ -33,7 +33,7 @@ const OPERATIONS_FOR_AN_ACCESS: usize = 4;
 
 /// Nothing is made yet of a program with these registers.
 fn nothing_made(scene: &Scene<'_>, registers: Items<Kind>) -> Result<Made, NoMemory>
-    ensures { IfOk result (λ made. Begins registers (length scene.now.shares.now) made) }
+    ensures { IfOk result (λ made. MakingBegins registers (length scene.now.shares.now) made) }
 {
     let accesses = untouched(scene)?;
     let values = no_values(scene.alloc, registers.len())?;

@@ -11,8 +11,8 @@ ghost use Rattle.dh_gathering.specs.NamedOnce.{NamesOnce};
 
 use crate::blocks::{Made, straight_block, test_block};
 use dh_base::NoMemory;
-use dh_code::place_of;
-use dh_expressions::{Paths, Scene, entity_of, inside};
+use dh_code::{entity_of, place_of};
+use dh_expressions::{Paths, Scene, inside};
 use dh_phases::{Phase, gather};
 use dh_plan::Node;
 use dh_tree::Command;

@@ -11,21 +11,21 @@ use Rattle.dh_net.specs.declared.nets.Driver.{Driver}
 use Rattle.dh_net.specs.declared.nets.Register.{Register}
 use Rattle.dh_net.specs.declared.ports.Port.{Port}
 use Rattle.dh_net.proofs.Valuations.{cell_of}
-use Rattle.dh_cells.specs.PlainCircuits.{one_cell}
 use Rattle.dh_cells.specs.Settled.{BeginsWith}
 use Rattle.dh_cells.proofs.CellsAppended.{get_last, get_either, begins_longer, width_later, cell_later}
 use Rattle.dh_sim.proofs.Keeping.{wide_fits}
-use Rattle.dh_join.specs.AddedCells.{AreCells, IsChoice, Grows, ShowsChoices, AreDepths, CellAdded, EitherAdded, ChoiceAdded}
+use Rattle.dh_join.specs.AddedCells.{AreNetCells, IsChoice, GrowsByChoices, ShowsChoices, AreWireDepths, CellAdded, EitherAdded, ChoiceAdded}
+use Rattle.dh_net.specs.Parts.{one_cell}
 
 -- Growth.
 
-pub grows_none : (cells : List Cell) (most : ℕ) → Grows cells cells most
+pub grows_none : (cells : List Cell) (most : ℕ) → GrowsByChoices cells cells most
 grows_none cells most = record { begins = λ i c at. at; added = λ i c at. inl at; valid = λ table registers all. all; few = omega arith }
 
-pub grows_more : (old new : List Cell) (m n : ℕ) → m ≤ n → Grows old new m → Grows old new n
+pub grows_more : (old new : List Cell) (m n : ℕ) → m ≤ n → GrowsByChoices old new m → GrowsByChoices old new n
 grows_more old new m n less g = record { begins = g.begins; added = g.added; valid = g.valid; few = (let few = g.few in omega (arith, few, less)) }
 
-pub grows_then : (a b c : List Cell) (m n : ℕ) → Grows a b m → Grows b c n → Grows a c (m + n)
+pub grows_then : (a b c : List Cell) (m n : ℕ) → GrowsByChoices a b m → GrowsByChoices b c n → GrowsByChoices a c (m + n)
 grows_then a b c m n g h = record {
   begins = λ i d at. h.begins i d (g.begins i d at);
   added = λ i d at. elim (h.added i d at) [ inl before ↦ g.added i d before | inr new ↦ inr new ];
@@ -34,8 +34,8 @@ grows_then a b c m n g h = record {
 }
 
 grows_one : (cells : List Cell) (c : Cell) → IsChoice c.form
-    → ((table : List MemEntry) (registers : List Register) → AreCells table registers cells → IsCell table registers cells (length cells) c)
-    → Grows cells (cells ++ c ∷ []) 1
+    → ((table : List MemEntry) (registers : List Register) → AreNetCells table registers cells → IsCell table registers cells (length cells) c)
+    → GrowsByChoices cells (cells ++ c ∷ []) 1
 grows_one cells c choice next = record {
   begins = begins_longer cells c;
   added = λ i x at. elim (get_either cells c i x at) [
@@ -61,7 +61,7 @@ shows_fewer old new wires e s = record {
   choice = λ i width c a b at. s.choice i width c a b (e i (one_cell width (Mux c a b)) at);
 }
 
-pub depths_fewer : (old new : List Cell) (depths : List ℕ) → BeginsWith new old → AreDepths new depths → AreDepths old depths
+pub depths_fewer : (old new : List Cell) (depths : List ℕ) → BeginsWith new old → AreWireDepths new depths → AreWireDepths old depths
 depths_fewer old new depths e d i c at = d i c (e i c at)
 
 pub driver_later : (old new : List Cell) (p : Port) (d : Driver) → BeginsWith new old → IsDriver old p d → IsDriver new p d

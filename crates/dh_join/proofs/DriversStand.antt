@@ -14,8 +14,8 @@ use Rattle.dh_net.specs.declared.nets.Driver.{Driver}
 use Rattle.dh_net.specs.declared.ports.Port.{Port}
 use Rattle.dh_cells.specs.Settled.{BeginsWith}
 use Rattle.dh_cells.proofs.CellsAppended.{width_later}
-use Rattle.dh_join.specs.AddedCells.{ShowsChoices, AreDepths, EitherAdded, ChoiceAdded}
-use Rattle.dh_join.specs.JoinedDrivers.{is_kind, count_kind, picked, first_active, former, DoesAs, DoesWhat, StandsAs, IsOneOf, IsZero, spared, IsWithin, FoundWithin, JoinsTwo, DataAdded, JoinsFound, StandsFor}
+use Rattle.dh_join.specs.AddedCells.{ShowsChoices, AreWireDepths, EitherAdded, ChoiceAdded}
+use Rattle.dh_join.specs.JoinedDrivers.{is_kind, count_kind, driver_of_kind, first_active, former, DoesAs, DoesWhat, DriverStandsAs, IsDriverOfKind, IsZero, spared, DriverIsWithin, FoundWithin, JoinsTwo, DataAdded, JoinsFound, StandsForDrivers}
 use Rattle.dh_join.proofs.CellsGrown.{grows_none, grows_then, shows_fewer, depths_fewer, driver_later}
 
 -- Two drivers.
@@ -80,7 +80,7 @@ former_none : (o : Option Driver) → former o None ≡ o
 former_none None = refl
 former_none (Some d) = refl
 
-pub found_second : (cells : List Cell) (p : Port) (write : Bool) (second : Option Driver) → IsOneOf cells p write second
+pub found_second : (cells : List Cell) (p : Port) (write : Bool) (second : Option Driver) → IsDriverOfKind cells p write second
     → JoinsFound cells cells p write None second second
 found_second cells p write second there = record {
   most = 0;
@@ -88,11 +88,11 @@ found_second cells p write second there = record {
   few = omega arith;
   there = there;
   zero = λ a b. b;
-  shows = λ wires s o q a b. subst (λ (x : Option Driver). StandsAs wires second (former x q)) (sym a) b;
+  shows = λ wires s o q a b. subst (λ (x : Option Driver). DriverStandsAs wires second (former x q)) (sym a) b;
   deep = λ depths most d a b. found_deeper depths most (suc most) second (omega arith) b;
 }
 
-pub found_first : (cells : List Cell) (p : Port) (write : Bool) (first : Option Driver) → IsOneOf cells p write first
+pub found_first : (cells : List Cell) (p : Port) (write : Bool) (first : Option Driver) → IsDriverOfKind cells p write first
     → JoinsFound cells cells p write first None first
 found_first cells p write first there = record {
   most = 0;
@@ -100,7 +100,7 @@ found_first cells p write first there = record {
   few = omega arith;
   there = there;
   zero = λ a b. a;
-  shows = λ wires s o q a b. subst (λ (x : Option Driver). StandsAs wires first x) (sym (ap (λ (x : Option Driver). former o x) b ∙ former_none o)) a;
+  shows = λ wires s o q a b. subst (λ (x : Option Driver). DriverStandsAs wires first x) (sym (ap (λ (x : Option Driver). former o x) b ∙ former_none o)) a;
   deep = λ depths most d a b. found_deeper depths most (suc most) first (omega arith) a;
 }
 
@@ -148,15 +148,15 @@ found_both old new p write first second joined one other h = record {
 }
 
 -- the same where they go by other names
-pub one_as : (cells : List Cell) (p : Port) (write : Bool) (o q : Option Driver) → o ≡ q → IsOneOf cells p write o → IsOneOf cells p write q
-one_as cells p write o q same h = subst (λ (x : Option Driver). IsOneOf cells p write x) same h
+pub one_as : (cells : List Cell) (p : Port) (write : Bool) (o q : Option Driver) → o ≡ q → IsDriverOfKind cells p write o → IsDriverOfKind cells p write q
+one_as cells p write o q same h = subst (λ (x : Option Driver). IsDriverOfKind cells p write x) same h
 
-pub found_second_as : (cells : List Cell) (p : Port) (write : Bool) (first second : Option Driver) → first ≡ None → IsOneOf cells p write second
+pub found_second_as : (cells : List Cell) (p : Port) (write : Bool) (first second : Option Driver) → first ≡ None → IsDriverOfKind cells p write second
     → JoinsFound cells cells p write first second second
 found_second_as cells p write first second none there =
     subst (λ (o : Option Driver). JoinsFound cells cells p write o second second) (sym none) (found_second cells p write second there)
 
-pub found_first_as : (cells : List Cell) (p : Port) (write : Bool) (first second : Option Driver) → second ≡ None → IsOneOf cells p write first
+pub found_first_as : (cells : List Cell) (p : Port) (write : Bool) (first second : Option Driver) → second ≡ None → IsDriverOfKind cells p write first
     → JoinsFound cells cells p write first second first
 found_first_as cells p write first second none there =
     subst (λ (o : Option Driver). JoinsFound cells cells p write first o first) (sym none) (found_first cells p write first there)
@@ -166,14 +166,14 @@ pub found_former_as : (old new : List Cell) (p : Port) (write : Bool) (first : O
 found_former_as old new p write first former second joined is h = subst (λ (o : Option Driver). JoinsFound old new p write o second joined) (sym is) h
 
 pub found_both_as : (old new : List Cell) (p : Port) (write : Bool) (first : Driver) (other : Option Driver) (second joined : Driver) → other ≡ Some second
-    → IsOneOf old p write (Some first) → IsOneOf old p write other → JoinsTwo old new p first second joined → JoinsFound old new p write (Some first) other (Some joined)
+    → IsDriverOfKind old p write (Some first) → IsDriverOfKind old p write other → JoinsTwo old new p first second joined → JoinsFound old new p write (Some first) other (Some joined)
 found_both_as old new p write first other second joined is one two h =
     subst (λ (o : Option Driver). JoinsFound old new p write (Some first) o (Some joined)) (sym is)
     (found_both old new p write first second joined one.1 (one_as old p write other (Some second) is two).1 h)
 
 -- Lists.
 
-pub stands_none : (cells : List Cell) (p : Port) (write : Bool) → StandsFor cells cells p write [] None
+pub stands_none : (cells : List Cell) (p : Port) (write : Bool) → StandsForDrivers cells cells p write [] None
 stands_none cells p write = record {
   most = 0;
   grows = grows_none cells 0;
@@ -200,7 +200,7 @@ module _ (cells : List Cell) (p : Port) (d : Driver) (drives : IsDriver cells p 
       by true e = absurd (cc)
       by false e = refl
 
-  one_there : (write t : Bool) → is_kind write d ≡ t → IsOneOf cells p write (found t)
+  one_there : (write t : Bool) → is_kind write d ≡ t → IsDriverOfKind cells p write (found t)
   one_there write true e = (drives, kind_is write e)
   one_there write false e = tt
 
@@ -216,15 +216,15 @@ module _ (cells : List Cell) (p : Port) (d : Driver) (drives : IsDriver cells p 
   none_active true = refl
   none_active false = refl
 
-  one_shows : (wires : List ℕ) (k : Bool) → StandsAs wires (found k) (if is_active wires d && k then Some d else None)
+  one_shows : (wires : List ℕ) (k : Bool) → DriverStandsAs wires (found k) (if is_active wires d && k then Some d else None)
   one_shows wires true = does_own wires (is_active wires d) refl
   one_shows wires false = none_active (is_active wires d)
 
-  one_deep : (depths : List ℕ) (most height : ℕ) (t : Bool) → IsWithin depths most d → FoundWithin depths (most + height) (found t)
+  one_deep : (depths : List ℕ) (most height : ℕ) (t : Bool) → DriverIsWithin depths most d → FoundWithin depths (most + height) (found t)
   one_deep depths most height true h = found_deeper depths most (most + height) (Some d) (omega arith) h
   one_deep depths most height false h = tt
 
-  pub stands_one : (write : Bool) → StandsFor cells cells p write (d ∷ []) (picked write d)
+  pub stands_one : (write : Bool) → StandsForDrivers cells cells p write (d ∷ []) (driver_of_kind write d)
   stands_one write = record {
     most = 0;
     grows = grows_none cells 0;
@@ -236,15 +236,15 @@ module _ (cells : List Cell) (p : Port) (d : Driver) (drives : IsDriver cells p 
   }
 
 -- the same of lists of none and of one
-pub stands_empty : (cells : List Cell) (p : Port) (write : Bool) (ds : List Driver) → length ds < 1 → StandsFor cells cells p write ds None
+pub stands_empty : (cells : List Cell) (p : Port) (write : Bool) (ds : List Driver) → length ds < 1 → StandsForDrivers cells cells p write ds None
 stands_empty cells p write [] none = stands_none cells p write
 stands_empty cells p write (d ∷ ds) none = absurd (omega (arith, none))
 
 pub stands_single : (cells : List Cell) (p : Port) (write : Bool) (ds : List Driver) (d other : Driver) (found : Option Driver) → 1 ≤ length ds → length ds < 2 → d ≡ get_or ds 0 other
-    → found ≡ picked write d → DrivePort cells p ds → StandsFor cells cells p write ds found
+    → found ≡ driver_of_kind write d → DrivePort cells p ds → StandsForDrivers cells cells p write ds found
 stands_single cells p write [] d other found some few is picks drives = absurd (omega (arith, some))
 stands_single cells p write (x ∷ []) d other found some few is picks drives =
-    subst (λ (o : Option Driver). StandsFor cells cells p write (x ∷ []) o) (sym (picks ∙ ap (λ (y : Driver). picked write y) is)) (stands_one cells p x (drives 0 x refl) write)
+    subst (λ (o : Option Driver). StandsForDrivers cells cells p write (x ∷ []) o) (sym (picks ∙ ap (λ (y : Driver). driver_of_kind write y) is)) (stands_one cells p x (drives 0 x refl) write)
 stands_single cells p write (x ∷ y ∷ ds) d other found some few is picks drives = absurd (omega (arith, few))
 
 -- the two parts of a list
@@ -282,31 +282,31 @@ half_few : (n x y m : ℕ) → n ≡ x + y → x ≤ y → y ≤ x + 1 → n ≤
 half_few n x y m all less near few = (omega (arith, all, less, few), omega (arith, all, near, few))
 
 module _ (c0 c1 c2 c3 : List Cell) (p : Port) (write : Bool) (xs ys : List Driver) (first second joined : Option Driver)
-    (front : StandsFor c0 c1 p write xs first) (back : StandsFor c1 c2 p write ys second) (h : JoinsFound c2 c3 p write first second joined)
+    (front : StandsForDrivers c0 c1 p write xs first) (back : StandsForDrivers c1 c2 p write ys second) (h : JoinsFound c2 c3 p write first second joined)
     (some : 1 ≤ length xs) (less : length xs ≤ length ys) (near : length ys ≤ length xs + 1) where
   parts_begin : BeginsWith c3 c1
   parts_begin i d at = h.grows.begins i d (back.grows.begins i d at)
 
-  parts_show : (wires : List ℕ) → ShowsChoices c3 wires → StandsAs wires joined (first_active write wires (xs ++ ys))
+  parts_show : (wires : List ℕ) → ShowsChoices c3 wires → DriverStandsAs wires joined (first_active write wires (xs ++ ys))
   parts_show wires s =
-      subst (λ (o : Option Driver). StandsAs wires joined o) (sym (first_of_parts write wires xs ys))
+      subst (λ (o : Option Driver). DriverStandsAs wires joined o) (sym (first_of_parts write wires xs ys))
       (h.shows wires s (first_active write wires xs) (first_active write wires ys) (front.shows wires (shows_fewer c1 c3 wires parts_begin s))
       (back.shows wires (shows_fewer c2 c3 wires h.grows.begins s)))
 
-  parts_deep : (depths : List ℕ) (most height : ℕ) → AreDepths c3 depths → length (xs ++ ys) ≤ 2 ^ height → AllByRecursion (IsWithin depths most) (xs ++ ys)
+  parts_deep : (depths : List ℕ) (most height : ℕ) → AreWireDepths c3 depths → length (xs ++ ys) ≤ 2 ^ height → AllByRecursion (DriverIsWithin depths most) (xs ++ ys)
       → FoundWithin depths (most + height) joined
   parts_deep depths most zero d few all = absurd (let long = length-append xs ys in omega (arith, long, few, some, less))
   parts_deep depths most (suc k) d few all =
       let halves = half_few (length (xs ++ ys)) (length xs) (length ys) (2 ^ k) (length-append xs ys) less near (twice k (length (xs ++ ys)) few) in
-      let a = front.deep depths most k (depths_fewer c1 c3 depths parts_begin d) halves.0 (all_front (IsWithin depths most) xs ys all) in
-      let b = back.deep depths most k (depths_fewer c2 c3 depths h.grows.begins d) halves.1 (all_back (IsWithin depths most) xs ys all) in
+      let a = front.deep depths most k (depths_fewer c1 c3 depths parts_begin d) halves.0 (all_front (DriverIsWithin depths most) xs ys all) in
+      let b = back.deep depths most k (depths_fewer c2 c3 depths h.grows.begins d) halves.1 (all_back (DriverIsWithin depths most) xs ys all) in
       let more : suc (most + k) ≡ most + suc k = omega arith in
       subst (λ (n : ℕ). FoundWithin depths n joined) more (h.deep depths (most + k) d a b)
     where
       twice : (k n : ℕ) → n ≤ 2 ^ suc k → n ≤ 2 * 2 ^ k
       twice k n h = omega (arith, h)
 
-  pub stands_parts : StandsFor c0 c3 p write (xs ++ ys) joined
+  pub stands_parts : StandsForDrivers c0 c3 p write (xs ++ ys) joined
   stands_parts = record {
     most = front.most + back.most + h.most;
     grows = grows_then c0 c2 c3 (front.most + back.most) h.most (grows_then c0 c1 c2 front.most back.most front.grows back.grows) h.grows;
@@ -320,11 +320,11 @@ module _ (c0 c1 c2 c3 : List Cell) (p : Port) (write : Bool) (xs ys : List Drive
 -- the same of the parts of a list at a place
 pub stands_split : (c0 c1 c2 c3 : List Cell) (p : Port) (write : Bool) (n : ℕ) (ds front back : List Driver) (first second joined : Option Driver)
     → front ≡ take n ds → back ≡ drop n ds → 1 ≤ length front → length front ≤ length back → length back ≤ length front + 1
-    → StandsFor c0 c1 p write front first → StandsFor c1 c2 p write back second → JoinsFound c2 c3 p write first second joined
-    → StandsFor c0 c3 p write ds joined
+    → StandsForDrivers c0 c1 p write front first → StandsForDrivers c1 c2 p write back second → JoinsFound c2 c3 p write first second joined
+    → StandsForDrivers c0 c3 p write ds joined
 stands_split c0 c1 c2 c3 p write n ds front back first second joined is_front is_back some less near a b h =
     let both : front ++ back ≡ ds = (λ i. is_front i ++ is_back i) ∙ take-append-drop n ds in
-    subst (λ (l : List Driver). StandsFor c0 c3 p write l joined) both (stands_parts c0 c1 c2 c3 p write front back first second joined a b h some less near)
+    subst (λ (l : List Driver). StandsForDrivers c0 c3 p write l joined) both (stands_parts c0 c1 c2 c3 p write front back first second joined a b h some less near)
 
 -- the parts of a port's drivers drive it
 drives_parts : (cells : List Cell) (p : Port) (xs ys : List Driver) → DrivePort cells p (xs ++ ys) → DrivePort cells p xs × DrivePort cells p ys
@@ -351,6 +351,6 @@ back_drives old new p n ds back e is h =
     (subst (λ (l : List Driver). DrivePort old p l) (sym is)
     (drives_parts old p (take n ds) (drop n ds) (subst (λ (l : List Driver). DrivePort old p l) (sym (take-append-drop n ds)) h)).1)
 
-pub one_later : (old new : List Cell) (p : Port) (write : Bool) (o : Option Driver) → BeginsWith new old → IsOneOf old p write o → IsOneOf new p write o
+pub one_later : (old new : List Cell) (p : Port) (write : Bool) (o : Option Driver) → BeginsWith new old → IsDriverOfKind old p write o → IsDriverOfKind new p write o
 one_later old new p write None e h = tt
 one_later old new p write (Some d) e h = (driver_later old new p d e h.0, h.1)

@@ -7,7 +7,7 @@ use Rattle.std.specs.Prelude.{Option, slice_index, nat_lt, if◌then◌else◌, 
 use Rattle.std.specs.List.{AllByRecursion}
 use Rattle.dh_net.specs.Clock.{is_active, any_active, has_clash, has_stray, served}
 use Rattle.dh_net.specs.declared.nets.Driver.{Driver}
-use Rattle.dh_join.specs.JoinedDrivers.{is_kind, drivers_in, first_active, former, DoesAs, DoesWhat, StandsAs}
+use Rattle.dh_join.specs.JoinedDrivers.{is_kind, drivers_in, first_active, former, DoesAs, DoesWhat, DriverStandsAs}
 use Rattle.dh_join.specs.JoinedPorts.{any_write, SameService, DrivesAs}
 
 -- truths
@@ -121,7 +121,7 @@ module _ (ws : List ℕ) where
   no_clash_alone true e = absurd (cc)
   no_clash_alone false e = absurd (cc)
 
-  clash_in : (read write r w : Option Driver) (C : Bool) → StandsAs ws read r → StandsAs ws write w → ((a b : Driver) → r ≡ Some a → w ≡ Some b → C ≡ true)
+  clash_in : (read write r w : Option Driver) (C : Bool) → DriverStandsAs ws read r → DriverStandsAs ws write w → ((a b : Driver) → r ≡ Some a → w ≡ Some b → C ≡ true)
       → has_clash ws (drivers_in read ++ drivers_in write) ≡ true → C ≡ true
   clash_in None None r w C h g so e = absurd (cc)
   clash_in None (Some y) r w C h g so e = absurd (no_clash_alone (is_active ws y) e)
@@ -144,7 +144,7 @@ module _ (ws : List ℕ) where
       out true false e = refl
       out false u e = absurd (cc)
 
-  stray_one : (o r : Option Driver) (rest : List Driver) (C : Bool) (rows : ℕ) → StandsAs ws o r
+  stray_one : (o r : Option Driver) (rest : List Driver) (C : Bool) (rows : ℕ) → DriverStandsAs ws o r
       → ((a : Driver) → r ≡ Some a → nat_lt (slice_index ws a.row) rows ≡ false → C ≡ true) → (has_stray ws rest rows ≡ true → C ≡ true)
       → has_stray ws (drivers_in o ++ rest) rows ≡ true → C ≡ true
   stray_one None r rest C rows h so else_so e = else_so e
@@ -154,7 +154,7 @@ module _ (ws : List ℕ) where
         | inr later ↦ else_so later
       ]
 
-  stray_last : (o r : Option Driver) (C : Bool) (rows : ℕ) → StandsAs ws o r
+  stray_last : (o r : Option Driver) (C : Bool) (rows : ℕ) → DriverStandsAs ws o r
       → ((a : Driver) → r ≡ Some a → nat_lt (slice_index ws a.row) rows ≡ false → C ≡ true)
       → has_stray ws (drivers_in o) rows ≡ true → C ≡ true
   stray_last None r C rows h so e = absurd (cc)
@@ -168,7 +168,7 @@ module _ (ws : List ℕ) where
       subst (λ (t : Bool). SameService ws (Some a) ws (if t then Some x else served ws rest)) (sym h.active)
       (record { kind = h.kind; row = h.row; out = h.out })
 
-  serve_found : (read r o : Option Driver) (rest : List Driver) → StandsAs ws read r → SameService ws o ws (served ws rest)
+  serve_found : (read r o : Option Driver) (rest : List Driver) → DriverStandsAs ws read r → SameService ws o ws (served ws rest)
       → SameService ws (former r o) ws (served ws (drivers_in read ++ rest))
   serve_found None r o rest h s = subst (λ (x : Option Driver). SameService ws (former x o) ws (served ws rest)) (sym h) s
   serve_found (Some x) r o rest h s = serve_one x r o rest h s
@@ -177,7 +177,7 @@ module _ (ws : List ℕ) where
   former_last None = refl
   former_last (Some d) = refl
 
-  serve_last : (write w : Option Driver) → StandsAs ws write w → SameService ws w ws (served ws (drivers_in write))
+  serve_last : (write w : Option Driver) → DriverStandsAs ws write w → SameService ws w ws (served ws (drivers_in write))
   serve_last None w h = subst (λ (x : Option Driver). SameService ws x ws None) (sym h) tt
   serve_last (Some y) w h = subst (λ (x : Option Driver). SameService ws x ws (served ws (y ∷ []))) (former_last w) (serve_one y w None [] h tt)
 
@@ -187,7 +187,7 @@ module _ (ws : List ℕ) where
   reads_only true false rest off e = e
   reads_only false k rest off e = e
 
-  write_last : (write w : Option Driver) (C : Bool) → StandsAs ws write w → ((b : Driver) → w ≡ Some b → C ≡ true) → any_write ws (drivers_in write) ≡ true → C ≡ true
+  write_last : (write w : Option Driver) (C : Bool) → DriverStandsAs ws write w → ((b : Driver) → w ≡ Some b → C ≡ true) → any_write ws (drivers_in write) ≡ true → C ≡ true
   write_last None w C h so e = absurd (cc)
   write_last (Some y) w C h so e =
       elim (or_cases (is_active ws y && y.write) false e) [
@@ -195,12 +195,12 @@ module _ (ws : List ℕ) where
         | inr none ↦ absurd (cc)
       ]
 
-  write_in : (read write w : Option Driver) (C : Bool) → Reads read → StandsAs ws write w → ((b : Driver) → w ≡ Some b → C ≡ true)
+  write_in : (read write w : Option Driver) (C : Bool) → Reads read → DriverStandsAs ws write w → ((b : Driver) → w ≡ Some b → C ≡ true)
       → any_write ws (drivers_in read ++ drivers_in write) ≡ true → C ≡ true
   write_in None write w C off h so e = write_last write w C h so e
   write_in (Some x) write w C off h so e = write_last write w C h so (reads_only (is_active ws x) x.write (any_write ws (drivers_in write)) off e)
 
-  pub drives_kinds : (ds : List Driver) (read write : Option Driver) → StandsAs ws read (first_active false ws ds) → StandsAs ws write (first_active true ws ds) → Reads read
+  pub drives_kinds : (ds : List Driver) (read write : Option Driver) → DriverStandsAs ws read (first_active false ws ds) → DriverStandsAs ws write (first_active true ws ds) → Reads read
       → DrivesAs ws ds ws (drivers_in read ++ drivers_in write)
   drives_kinds ds read write h g off = record {
     clash = clash_in read write (first_active false ws ds) (first_active true ws ds) (has_clash ws ds) h g (both_clash ds);

@@ -19,9 +19,9 @@ use Rattle.dh_net.specs.declared.ports.Port.{Port}
 use Rattle.dh_net.proofs.PortWalks.{small_memories}
 use Rattle.dh_cells.specs.Settled.{BeginsWith}
 use Rattle.dh_cells.proofs.CellsAppended.{get_either}
-use Rattle.dh_join.specs.AddedCells.{Grows}
-use Rattle.dh_join.specs.JoinedDrivers.{is_kind, count_kind, drivers_in, IsOneOf, IsZero, IsWithin, FoundWithin, StandsFor}
-use Rattle.dh_join.specs.JoinedPorts.{joined_of, joined_in, JoinedIn, BothJoined, PortJoined, DriveAll, PortsJoined, JoinedSoFar}
+use Rattle.dh_join.specs.AddedCells.{GrowsByChoices}
+use Rattle.dh_join.specs.JoinedDrivers.{is_kind, count_kind, drivers_in, IsDriverOfKind, IsZero, DriverIsWithin, FoundWithin, StandsForDrivers}
+use Rattle.dh_join.specs.JoinedPorts.{joined_of, joined_in, JoinedIn, BothJoined, PortJoined, DriveAllPorts, PortsJoined, JoinedSoFar}
 use Rattle.dh_join.proofs.CellsGrown.{grows_none, grows_more, grows_then, shows_fewer, depths_fewer, driver_later}
 use Rattle.dh_join.proofs.DriversStand.{count_parts, all_both, drives_later}
 use Rattle.dh_join.proofs.PortsDriven.{Reads, drives_kinds, drives_own}
@@ -29,7 +29,7 @@ use Rattle.dh_join.proofs.PortsDriven.{Reads, drives_kinds, drives_own}
 -- Two drivers that may be there.
 
 -- how many there are of a kind where all are of one
-count_same : (cells : List Cell) (p : Port) (write : Bool) (o : Option Driver) → IsOneOf cells p write o → count_kind write (drivers_in o) ≤ 1
+count_same : (cells : List Cell) (p : Port) (write : Bool) (o : Option Driver) → IsDriverOfKind cells p write o → count_kind write (drivers_in o) ≤ 1
 count_same cells p write None h = omega arith
 count_same cells p write (Some d) h = by (is_kind write d)
   where
@@ -37,7 +37,7 @@ count_same cells p write (Some d) h = by (is_kind write d)
     by true = omega arith
     by false = omega arith
 
-count_other : (cells : List Cell) (p : Port) (write other : Bool) (o : Option Driver) → (other ≡ not write) → IsOneOf cells p write o → count_kind other (drivers_in o) ≡ 0
+count_other : (cells : List Cell) (p : Port) (write other : Bool) (o : Option Driver) → (other ≡ not write) → IsDriverOfKind cells p write o → count_kind other (drivers_in o) ≡ 0
 count_other cells p write other None is h = refl
 count_other cells p true true (Some d) is h = absurd (cc)
 count_other cells p true false (Some d) is h = ap (λ (t : Bool). (if not t then 1 else 0) + 0) h.1
@@ -54,7 +54,7 @@ count_all (d ∷ ds) = let rest = count_all ds in by d.write rest
     by true rest = omega (arith, rest)
     by false rest = omega (arith, rest)
 
-found_drives : (cells : List Cell) (p : Port) (write : Bool) (o : Option Driver) → IsOneOf cells p write o → DrivePort cells p (drivers_in o)
+found_drives : (cells : List Cell) (p : Port) (write : Bool) (o : Option Driver) → IsDriverOfKind cells p write o → DrivePort cells p (drivers_in o)
 found_drives cells p write None h k d at = absurd (let no : None ≡ Some d = at in cc)
 found_drives cells p write (Some x) h zero d at = (let same : x ≡ d = cc in subst (λ (y : Driver). IsDriver cells p y) same h.0)
 found_drives cells p write (Some x) h (suc k) d at = absurd (let no : None ≡ Some d = at in cc)
@@ -68,22 +68,22 @@ found_zero : (o : Option Driver) → IsZero o → AllByRecursion ReadsZero (driv
 found_zero None h = tt
 found_zero (Some d) h = (h, tt)
 
-found_within : (depths : List ℕ) (most : ℕ) (o : Option Driver) → FoundWithin depths most o → AllByRecursion (IsWithin depths most) (drivers_in o)
+found_within : (depths : List ℕ) (most : ℕ) (o : Option Driver) → FoundWithin depths most o → AllByRecursion (DriverIsWithin depths most) (drivers_in o)
 found_within depths most None h = tt
 found_within depths most (Some d) h = (h, tt)
 
-found_reads : (cells : List Cell) (p : Port) (o : Option Driver) → IsOneOf cells p false o → Reads o
+found_reads : (cells : List Cell) (p : Port) (o : Option Driver) → IsDriverOfKind cells p false o → Reads o
 found_reads cells p None h = tt
 found_reads cells p (Some d) h = h.1
 
 pub both_joined : (c0 c1 c2 : List Cell) (p : Port) (ds : List Driver) (read write : Option Driver) (joined : List Driver) → joined ≡ drivers_in read ++ drivers_in write
-    → StandsFor c0 c1 p false ds read → StandsFor c1 c2 p true ds write → BothJoined c0 c2 p ds joined
+    → StandsForDrivers c0 c1 p false ds read → StandsForDrivers c1 c2 p true ds write → BothJoined c0 c2 p ds joined
 both_joined c0 c1 c2 p ds read write joined is a b = subst (λ (l : List Driver). BothJoined c0 c2 p ds l) (sym is) made
   where
-    read_there : IsOneOf c2 p false read
+    read_there : IsDriverOfKind c2 p false read
     read_there = later read a.there
       where
-        later : (o : Option Driver) → IsOneOf c1 p false o → IsOneOf c2 p false o
+        later : (o : Option Driver) → IsDriverOfKind c1 p false o → IsDriverOfKind c2 p false o
         later None h = tt
         later (Some d) h = (driver_later c1 c2 p d b.grows.begins h.0, h.1)
 
@@ -106,14 +106,14 @@ both_joined c0 c1 c2 p ds read write joined is a b = subst (λ (l : List Driver)
       zero = λ all. all_both ReadsZero (drivers_in read) (drivers_in write) (found_zero read (a.zero all)) (found_zero write (b.zero all));
       shows = λ wires s. drives_kinds wires ds read write (a.shows wires (shows_fewer c1 c2 wires b.grows.begins s)) (b.shows wires s) (found_reads c2 p read read_there);
       deep = λ depths most height d few all.
-          all_both (IsWithin depths (most + height)) (drivers_in read) (drivers_in write)
+          all_both (DriverIsWithin depths (most + height)) (drivers_in read) (drivers_in write)
           (found_within depths (most + height) read (a.deep depths most height (depths_fewer c1 c2 depths b.grows.begins d) few all))
           (found_within depths (most + height) write (b.deep depths most height d few all));
     }
 
 -- One port.
 
-all_deeper : (depths : List ℕ) (m n : ℕ) (ds : List Driver) → m ≤ n → AllByRecursion (IsWithin depths m) ds → AllByRecursion (IsWithin depths n) ds
+all_deeper : (depths : List ℕ) (m n : ℕ) (ds : List Driver) → m ≤ n → AllByRecursion (DriverIsWithin depths m) ds → AllByRecursion (DriverIsWithin depths n) ds
 all_deeper depths m n [] less h = tt
 all_deeper depths m n (d ∷ ds) less h = (
   record {
@@ -143,7 +143,7 @@ many_joined n many = grind (arith, nat_tests)
 -- of many
 pub port_joined : (old new : List Cell) (p : Port) (ds joined : List Driver) → 4 < length ds → BothJoined old new p ds joined → PortJoined old new p ds joined
 port_joined old new p ds joined many h = record {
-  grows = subst (λ (n : ℕ). Grows old new (3 * n)) (sym (many_joined (length ds) many)) h.grows;
+  grows = subst (λ (n : ℕ). GrowsByChoices old new (3 * n)) (sym (many_joined (length ds) many)) h.grows;
   here = record {
     few = record { kept = λ small. absurd (omega (arith, small, many)); reads = λ more. h.reads; writes = λ more. h.writes };
     drive = h.drive;
@@ -181,7 +181,7 @@ item_at {A = A} xs i x other inside is = slice_get-get_or xs i other inside ∙ 
 -- the drivers of the next port drive it still
 pub next_drives : (old now : List Cell) (ports : List Port) (dss joined left : List (List Driver)) (i : ℕ) (p no_port : Port) (ds item no_list : List Driver)
     → JoinedSoFar old now ports dss joined i left → i < length ports → length dss ≡ length ports → p ≡ get_or ports i no_port → item ≡ get_or dss i no_list → ds ≡ item
-    → DriveAll old ports dss → DrivePort now p ds
+    → DriveAllPorts old ports dss → DrivePort now p ds
 next_drives old now ports dss joined left i p no_port ds item no_list h inside long is_port is_item is_list all =
     drives_later old now p ds h.grows.begins
     (all i p ds (item_at ports i p no_port inside is_port) (item_at dss i ds no_list (omega (arith, inside, long)) (is_list ∙ is_item)))
@@ -236,8 +236,8 @@ module _ (table : List MemEntry) (ports listed : List Port) (lists : List (List 
   pub lists_long : length lists ≡ length (ports_of table) → length lists ≡ length listed
   lists_long long = long ∙ ap (λ (l : List Port). length l) (sym listed_is)
 
-  pub lists_drive : (cells : List Cell) → DriveAll cells (ports_of table) lists → DriveAll cells listed lists
-  lists_drive cells h = subst (λ (l : List Port). DriveAll cells l lists) (sym listed_is) h
+  pub lists_drive : (cells : List Cell) → DriveAllPorts cells (ports_of table) lists → DriveAllPorts cells listed lists
+  lists_drive cells h = subst (λ (l : List Port). DriveAllPorts cells l lists) (sym listed_is) h
 
   pub lists_joined : (cells new : List Cell) (joined : List (List Driver)) → PortsJoined cells new listed lists joined → PortsJoined cells new (ports_of table) lists joined
   lists_joined cells new joined h = subst (λ (l : List Port). PortsJoined cells new l lists joined) listed_is h
@@ -251,7 +251,7 @@ module _ (net : Net) (valid : IsValid net) (table : List MemEntry) (lists : List
   pub net_long : length lists ≡ length (ports_of table)
   net_long = ap (λ (l : List (List Driver)). length l) lists_are ∙ (valid.ports ∙ ap (λ (l : List Port). length l) (sym ports_are))
 
-  pub net_drives : (cells : List Cell) → cells ≡ net.cells → DriveAll cells (ports_of table) lists
+  pub net_drives : (cells : List Cell) → cells ≡ net.cells → DriveAllPorts cells (ports_of table) lists
   net_drives cells is q p ds port_at list_at k d at =
       subst (λ (l : List Cell). IsDriver l p d) (sym is)
       (valid.drivers q ds p (ap (λ (l : List (List Driver)). slice_get l q) (sym lists_are) ∙ list_at) (ap (λ (l : List Port). slice_get l q) (sym ports_are) ∙ port_at) k d at)

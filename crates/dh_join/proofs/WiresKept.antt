@@ -19,12 +19,13 @@ use Rattle.dh_net.specs.declared.nets.Net.{Net}
 use Rattle.dh_net.specs.declared.nets.Register.{Register}
 use Rattle.dh_net.specs.declared.ports.Port.{Port}
 use Rattle.dh_net.proofs.Valuations.{cell_of, one_valuation, reads_before, wires_fit}
-use Rattle.dh_cells.specs.PlainCircuits.{one_cell, circuit_of}
+use Rattle.dh_cells.specs.PlainCircuits.{circuit_of}
 use Rattle.dh_cells.specs.Settled.{BeginsWith}
 use Rattle.dh_cells.proofs.CellsAppended.{width_later, measured_by_fit, value_later}
-use Rattle.dh_join.specs.AddedCells.{AreCells, ShowsChoices}
+use Rattle.dh_join.specs.AddedCells.{AreNetCells, ShowsChoices}
 use Rattle.dh_join.specs.JoinedPorts.{PortsJoined, DrivesAs}
 use Rattle.dh_join.proofs.PortsDriven.{Agrees, drives_agree, drives_then}
+use Rattle.dh_net.specs.Parts.{one_cell}
 
 -- what the new net is by the old one and the drivers that were joined
 pub record IsDrivenBy (old new : Net) : Type 0 where
@@ -57,10 +58,10 @@ module _ (old new : Net) (h : IsDrivenBy old new) where
   new_register : (r : Register) → IsRegister old.cells r → IsRegister new.cells r
   new_register r k = record { least = k.least; greatest = k.greatest; initial = k.initial; next = wire_later r.next r.width k.next }
 
-  new_cells : AreCells new.table new.registers new.cells
+  new_cells : AreNetCells new.table new.registers new.cells
   new_cells =
-      subst (λ (t : List MemEntry). AreCells t new.registers new.cells) (sym h.table)
-      (subst (λ (rs : List Register). AreCells old.table rs new.cells) (sym h.registers) (h.joined.grows.valid old.table old.registers h.valid.cells))
+      subst (λ (t : List MemEntry). AreNetCells t new.registers new.cells) (sym h.table)
+      (subst (λ (rs : List Register). AreNetCells old.table rs new.cells) (sym h.registers) (h.joined.grows.valid old.table old.registers h.valid.cells))
 
   new_driver : (q : ℕ) (es : List Driver) (p : Port) → slice_get new.drivers q ≡ Some es → slice_get (ports_of new.table) q ≡ Some p
       → (k : ℕ) (e : Driver) → slice_get es k ≡ Some e → IsDriver new.cells p e

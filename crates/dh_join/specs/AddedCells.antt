@@ -8,12 +8,12 @@ use Rattle.dh_net.specs.declared.nets.Cell.{Cell}
 use Rattle.dh_net.specs.declared.nets.CellForm.{CellForm}
 use Rattle.dh_net.specs.declared.nets.CellForm.TheVariants.{Const, Reg, Data, Add, Sub, Mul, And, Or, Xor, Shl, ShrU, ShrS, LtU, LtS, Eq, Mux, Zero, Sign, Low}
 use Rattle.dh_net.specs.declared.nets.Register.{Register}
-use Rattle.dh_cells.specs.PlainCircuits.{one_cell}
 use Rattle.dh_cells.specs.Settled.{BeginsWith}
+use Rattle.dh_net.specs.Parts.{one_cell}
 
 -- all are cells of a net with this table and these registers
-abbrev pub AreCells : List MemEntry → List Register → List Cell → Type 0
-AreCells table registers cells = (i : ℕ) (c : Cell) → slice_get cells i ≡ Some c → IsCell table registers cells i c
+abbrev pub AreNetCells : List MemEntry → List Register → List Cell → Type 0
+AreNetCells table registers cells = (i : ℕ) (c : Cell) → slice_get cells i ≡ Some c → IsCell table registers cells i c
 
 -- a cell of `|` or `? :`
 abbrev pub IsChoice : CellForm → Type 0
@@ -22,10 +22,10 @@ IsChoice (Mux c a b) = Unit {0}
 IsChoice form = ⊥
 
 -- at most so many cells of these forms were added, each a cell of whatever net has the others
-pub record Grows (old new : List Cell) (most : ℕ) : Type 0 where
+pub record GrowsByChoices (old new : List Cell) (most : ℕ) : Type 0 where
   pub begins : BeginsWith new old
   pub added : (i : ℕ) (c : Cell) → slice_get new i ≡ Some c → (slice_get old i ≡ Some c) ⊎ IsChoice c.form
-  pub valid : (table : List MemEntry) (registers : List Register) → AreCells table registers old → AreCells table registers new
+  pub valid : (table : List MemEntry) (registers : List Register) → AreNetCells table registers old → AreNetCells table registers new
   pub few : length new ≤ length old + most
 
 -- no wire shows more bits than it has, and those of two forms of cells show what their cells choose
@@ -60,8 +60,8 @@ form_depth depths (Sign a) = suc (slice_index depths a)
 form_depth depths (Low a) = suc (slice_index depths a)
 
 -- these are the depths of the wires of cells
-abbrev pub AreDepths : List Cell → (depths : List ℕ) → Type 0
-AreDepths cells depths = (i : ℕ) (c : Cell) → slice_get cells i ≡ Some c → slice_index depths i ≡ form_depth depths c.form
+abbrev pub AreWireDepths : List Cell → (depths : List ℕ) → Type 0
+AreWireDepths cells depths = (i : ℕ) (c : Cell) → slice_get cells i ≡ Some c → slice_index depths i ≡ form_depth depths c.form
 
 -- What is added.
 
@@ -72,18 +72,18 @@ pub record CellAdded (old new : List Cell) (width : ℕ) (form : CellForm) (wire
 
 -- a wire that is 1 where one of two is
 pub record EitherAdded (old new : List Cell) (a b wire : ℕ) : Type 0 where
-  pub grows : Grows old new 1
+  pub grows : GrowsByChoices old new 1
   pub wide : HasWidth new wire 1
   pub shows : (wires : List ℕ) → ShowsChoices new wires
       → (slice_index wires wire == 1) ≡ ((slice_index wires a == 1) || (slice_index wires b == 1))
-  pub deep : (depths : List ℕ) (most : ℕ) → AreDepths new depths → slice_index depths a ≤ most → slice_index depths b ≤ most
+  pub deep : (depths : List ℕ) (most : ℕ) → AreWireDepths new depths → slice_index depths a ≤ most → slice_index depths b ≤ most
       → slice_index depths wire ≤ suc most
 
 -- a wire that shows one of two, by a test
 pub record ChoiceAdded (old new : List Cell) (width test a b wire : ℕ) : Type 0 where
-  pub grows : Grows old new 1
+  pub grows : GrowsByChoices old new 1
   pub wide : HasWidth new wire width
   pub shows : (wires : List ℕ) → ShowsChoices new wires
       → slice_index wires wire ≡ (if slice_index wires test == 1 then slice_index wires a else slice_index wires b)
-  pub deep : (depths : List ℕ) (most : ℕ) → AreDepths new depths → slice_index depths test ≤ most → slice_index depths a ≤ most
+  pub deep : (depths : List ℕ) (most : ℕ) → AreWireDepths new depths → slice_index depths test ≤ most → slice_index depths a ≤ most
       → slice_index depths b ≤ most → slice_index depths wire ≤ suc most

@@ -9,9 +9,9 @@ use Rattle.dh_net.specs.declared.nets.Cell.{Cell}
 use Rattle.dh_net.specs.declared.nets.Driver.{Driver}
 use Rattle.dh_net.specs.declared.nets.Net.{Net}
 use Rattle.dh_cells.specs.Settled.{BeginsWith}
-use Rattle.dh_join.specs.AddedCells.{IsChoice, AreDepths}
-use Rattle.dh_join.specs.JoinedDrivers.{IsWithin}
-use Rattle.dh_join.specs.JoinedPorts.{AreFew, any_write, joined_in}
+use Rattle.dh_join.specs.AddedCells.{IsChoice, AreWireDepths}
+use Rattle.dh_join.specs.JoinedDrivers.{DriverIsWithin}
+use Rattle.dh_join.specs.JoinedPorts.{LeavesFewDrivers, any_write, joined_in}
 
 -- from these memories the net has had no clash in so many clocks
 abbrev pub HadNoClash : Net → (start : List (List ℕ)) → (clocks : ℕ) → Type 0
@@ -37,7 +37,7 @@ pub record IsJoined (old new : Net) : Type 0 where
   pub faults : new.faults ≡ old.faults
   pub registers : new.registers ≡ old.registers
   pub ports : length new.drivers ≡ length old.drivers
-  pub few : (port : ℕ) (ds es : List Driver) → slice_get old.drivers port ≡ Some ds → slice_get new.drivers port ≡ Some es → AreFew ds es
+  pub few : (port : ℕ) (ds es : List Driver) → slice_get old.drivers port ≡ Some ds → slice_get new.drivers port ≡ Some es → LeavesFewDrivers ds es
   pub zero_reads : HasReadsZero old → HasReadsZero new
   -- from all memories that fit, after any number of clocks in which the old net has had no clash
   pub same : (start : List (List ℕ)) → Fits old.table start
@@ -49,9 +49,9 @@ pub record IsJoined (old new : Net) : Type 0 where
   pub added : (i : ℕ) (c : Cell) → slice_get new.cells i ≡ Some c → (slice_get old.cells i ≡ Some c) ⊎ IsChoice c.form
   pub small : length new.cells ≤ length old.cells + 3 * joined_in old.drivers
   -- the wires of a port's drivers are deeper by the height of a tree of them
-  pub deep : (depths : List ℕ) → AreDepths new.cells depths
+  pub deep : (depths : List ℕ) → AreWireDepths new.cells depths
       → (port : ℕ) (ds es : List Driver) → slice_get old.drivers port ≡ Some ds → slice_get new.drivers port ≡ Some es
-      → (most height : ℕ) → length ds ≤ 2 ^ height → AllByRecursion (IsWithin depths most) ds → AllByRecursion (IsWithin depths (most + height)) es
+      → (most height : ℕ) → length ds ≤ 2 ^ height → AllByRecursion (DriverIsWithin depths most) ds → AllByRecursion (DriverIsWithin depths (most + height)) es
 
 -- What a net plays, the joined one plays.
 abbrev pub JoinedNetsPlay : Type 0

@@ -7,15 +7,15 @@ use Rattle.dh_net.specs.Valid.{ReadsZero}
 use Rattle.dh_net.specs.declared.nets.Cell.{Cell}
 use Rattle.dh_net.specs.declared.nets.Driver.{Driver}
 use Rattle.dh_net.specs.declared.ports.Port.{Port}
-use Rattle.dh_join.specs.AddedCells.{Grows, ShowsChoices, AreDepths}
-use Rattle.dh_join.specs.JoinedDrivers.{count_kind, IsWithin}
+use Rattle.dh_join.specs.AddedCells.{GrowsByChoices, ShowsChoices, AreWireDepths}
+use Rattle.dh_join.specs.JoinedDrivers.{count_kind, DriverIsWithin}
 
 -- the most drivers of a port that stay as they are
 abbrev pub most_kept : ℕ
 most_kept = 4
 
 -- a port has the drivers that it had, where they are few, else at most one that reads and one that writes
-pub record AreFew (given joined : List Driver) : Type 0 where
+pub record LeavesFewDrivers (given joined : List Driver) : Type 0 where
   pub kept : length given ≤ most_kept → joined ≡ given
   pub reads : most_kept < length given → count_kind false joined ≤ 1
   pub writes : most_kept < length given → count_kind true joined ≤ 1
@@ -55,31 +55,31 @@ pub record DrivesAs (ws : List ℕ) (ds : List Driver) (vs : List ℕ) (es : Lis
 
 -- these drivers of a port, by these cells, are those ones joined
 pub record JoinedIn (cells : List Cell) (port : Port) (given joined : List Driver) : Type 0 where
-  pub few : AreFew given joined
+  pub few : LeavesFewDrivers given joined
   pub drive : DrivePort cells port joined
   pub zero : AllByRecursion ReadsZero given → AllByRecursion ReadsZero joined
   pub shows : (wires : List ℕ) → ShowsChoices cells wires → DrivesAs wires given wires joined
-  pub deep : (depths : List ℕ) (most height : ℕ) → AreDepths cells depths → length given ≤ 2 ^ height → AllByRecursion (IsWithin depths most) given
-      → AllByRecursion (IsWithin depths (most + height)) joined
+  pub deep : (depths : List ℕ) (most height : ℕ) → AreWireDepths cells depths → length given ≤ 2 ^ height → AllByRecursion (DriverIsWithin depths most) given
+      → AllByRecursion (DriverIsWithin depths (most + height)) joined
 
 -- one driver for each kind, by cells that were added
 pub record BothJoined (old new : List Cell) (port : Port) (given joined : List Driver) : Type 0 where
-  pub grows : Grows old new (3 * length given)
+  pub grows : GrowsByChoices old new (3 * length given)
   pub reads : count_kind false joined ≤ 1
   pub writes : count_kind true joined ≤ 1
   pub drive : DrivePort new port joined
   pub zero : AllByRecursion ReadsZero given → AllByRecursion ReadsZero joined
   pub shows : (wires : List ℕ) → ShowsChoices new wires → DrivesAs wires given wires joined
-  pub deep : (depths : List ℕ) (most height : ℕ) → AreDepths new depths → length given ≤ 2 ^ height → AllByRecursion (IsWithin depths most) given
-      → AllByRecursion (IsWithin depths (most + height)) joined
+  pub deep : (depths : List ℕ) (most height : ℕ) → AreWireDepths new depths → length given ≤ 2 ^ height → AllByRecursion (DriverIsWithin depths most) given
+      → AllByRecursion (DriverIsWithin depths (most + height)) joined
 
 pub record PortJoined (old new : List Cell) (port : Port) (given joined : List Driver) : Type 0 where
-  pub grows : Grows old new (3 * joined_of given)
+  pub grows : GrowsByChoices old new (3 * joined_of given)
   pub here : JoinedIn new port given joined
 
 -- each list drives the port with its number
-abbrev pub DriveAll : List Cell → List Port → List (List Driver) → Type 0
-DriveAll cells ports dss = (q : ℕ) (p : Port) (ds : List Driver) → slice_get ports q ≡ Some p → slice_get dss q ≡ Some ds → DrivePort cells p ds
+abbrev pub DriveAllPorts : List Cell → List Port → List (List Driver) → Type 0
+DriveAllPorts cells ports dss = (q : ℕ) (p : Port) (ds : List Driver) → slice_get ports q ≡ Some p → slice_get dss q ≡ Some ds → DrivePort cells p ds
 
 -- the same of the lists of ports
 abbrev pub AllJoinedIn : List Cell → List Port → (given joined : List (List Driver)) → Type 0
@@ -87,14 +87,14 @@ AllJoinedIn cells ports given joined =
     (q : ℕ) (p : Port) (ds es : List Driver) → slice_get ports q ≡ Some p → slice_get given q ≡ Some ds → slice_get joined q ≡ Some es → JoinedIn cells p ds es
 
 pub record PortsJoined (old new : List Cell) (ports : List Port) (given joined : List (List Driver)) : Type 0 where
-  pub grows : Grows old new (3 * joined_in given)
+  pub grows : GrowsByChoices old new (3 * joined_in given)
   pub long : length joined ≡ length given
   pub each : AllJoinedIn new ports given joined
 
 -- so many ports are joined, and what is left may still add its cells
 pub record JoinedSoFar (old new : List Cell) (ports : List Port) (given joined : List (List Driver)) (count : ℕ) (left : List (List Driver)) : Type 0 where
   pub most : ℕ
-  pub grows : Grows old new most
+  pub grows : GrowsByChoices old new most
   pub few : most + 3 * joined_in left ≤ 3 * joined_in given
   pub long : length joined ≡ count
   pub within : count ≤ length given

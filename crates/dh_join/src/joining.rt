@@ -6,7 +6,7 @@ ghost use Rattle.dh_extents.specs.Extents.{IsSmallMemory};
 ghost use Rattle.dh_net.specs.BankPorts.{ports_of};
 ghost use Rattle.dh_net.specs.Valid.{IsValid};
 ghost use Rattle.dh_join.specs.JoinedNets.{IsJoined};
-ghost use Rattle.dh_join.specs.JoinedPorts.{DriveAll, PortsJoined};
+ghost use Rattle.dh_join.specs.JoinedPorts.{DriveAllPorts, PortsJoined};
 
 use crate::ports::join_ports;
 use dh_base::{Items, NoMemory};
@@ -23,7 +23,7 @@ fn drive_ports(
 ) -> Result<Items<Items<Driver>>, NoMemory>
     requires small { AllByRecursion IsSmallMemory table.now }
     requires long { length lists.now ≡ length (ports_of table.now) }
-    requires drive { DriveAll cells.old (ports_of table.now) lists.now }
+    requires drive { DriveAllPorts cells.old (ports_of table.now) lists.now }
     ensures { IfOk result (λ joined. PortsJoined cells.old cells.new (ports_of table.now)
         lists.now joined) }
 {

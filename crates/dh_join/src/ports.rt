@@ -3,8 +3,8 @@
 ghost use Rattle.std.specs.Prelude.{◌≡◌, ◌++◌, IfOk, OnOk, Some, length};
 ghost use Rattle.dh_net.specs.Parts.{DrivePort};
 ghost use Rattle.dh_net.specs.Valid.{IsDriver};
-ghost use Rattle.dh_join.specs.JoinedDrivers.{DataAdded, IsOneOf, JoinsFound, JoinsTwo, StandsFor, drivers_in, is_kind as kind_told, picked};
-ghost use Rattle.dh_join.specs.JoinedPorts.{BothJoined, DriveAll, PortJoined, PortsJoined};
+ghost use Rattle.dh_join.specs.JoinedDrivers.{DataAdded, IsDriverOfKind, JoinsFound, JoinsTwo, StandsForDrivers, drivers_in, is_kind as kind_told, driver_of_kind};
+ghost use Rattle.dh_join.specs.JoinedPorts.{BothJoined, DriveAllPorts, PortJoined, PortsJoined};
 
 use crate::choices::{push_choice, push_either};
 use dh_base::{Items, NoMemory};
@@ -64,8 +64,8 @@ fn join_former(
     former: Driver,
     second: Option<Driver>,
 ) -> Result<Option<Driver>, NoMemory>
-    requires former { IsOneOf cells.old port write (Some former) }
-    requires second { IsOneOf cells.old port write second }
+    requires former { IsDriverOfKind cells.old port write (Some former) }
+    requires second { IsDriverOfKind cells.old port write second }
     ensures { IfOk result (λ joined. JoinsFound cells.old cells.new port write
         (Some former) second joined) }
 {
@@ -86,8 +86,8 @@ fn join_found(
     first: Option<Driver>,
     second: Option<Driver>,
 ) -> Result<Option<Driver>, NoMemory>
-    requires first { IsOneOf cells.old port write first }
-    requires second { IsOneOf cells.old port write second }
+    requires first { IsDriverOfKind cells.old port write first }
+    requires second { IsDriverOfKind cells.old port write second }
     ensures { IfOk result (λ joined. JoinsFound cells.old cells.new port write
         first second joined) }
 {
@@ -106,7 +106,7 @@ fn is_kind(write: bool, driver: Driver) -> bool
 
 /// The driver, where it is of this kind.
 fn pick(write: bool, driver: Driver) -> Option<Driver>
-    ensures { result ≡ picked write driver }
+    ensures { result ≡ driver_of_kind write driver }
 {
     if is_kind(write, driver) {
         Some(driver)
@@ -124,7 +124,7 @@ fn join_kind(
     drivers: &[Driver],
 ) -> Result<Option<Driver>, NoMemory>
     requires { DrivePort cells.old port drivers.now }
-    ensures { IfOk result (λ joined. StandsFor cells.old cells.new port write drivers.now joined) }
+    ensures { IfOk result (λ joined. StandsForDrivers cells.old cells.new port write drivers.now joined) }
 {
     match drivers {
         [] => Ok(None),
@@ -214,7 +214,7 @@ pub fn join_ports(
     lists: &[Items<Driver>],
 ) -> Result<Items<Items<Driver>>, NoMemory>
     requires long { length lists.now ≡ length ports.now }
-    requires drive { DriveAll cells.old ports.now lists.now }
+    requires drive { DriveAllPorts cells.old ports.now lists.now }
     ensures { IfOk result (λ joined. PortsJoined cells.old cells.new ports.now lists.now joined) }
 {
     let mut joined = Items::new(alloc);

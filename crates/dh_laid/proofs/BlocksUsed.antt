@@ -19,7 +19,7 @@ use Rattle.dh_commands.specs.declared.buildings.Building.{Building}
 use Rattle.dh_commands.specs.LanesRun.{paths_counted}
 use Rattle.dh_commands.specs.MadeCommands.{MadeCommand}
 use Rattle.dh_laid.specs.BlockSites.{MadeEach, all_there, block_sites, command_sites, one_site, places_from, site_or, sites_from, term_sites, test_sites}
-use Rattle.dh_laid.specs.LaidNumbers.{IsOutside, NumbersLaid}
+use Rattle.dh_laid.specs.LaidNumbers.{IsOutsideRange, NumbersLaid}
 use Rattle.dh_laid.specs.LaidProbes.{AddsProbes}
 use Rattle.dh_laid.specs.LaidQuiet.{BlockStandsIn}
 use Rattle.dh_laid.specs.LaidUses.{AddsLedUses, AddsUses, AreAlong, HaveNoOperations, BlocksLead, BlocksProbe, BlocksUse, PathsLead, SharesInside, TestsLead, TestsProbe, TestsUse, WritesAlone, probed_by, used_by, used_to}
@@ -186,7 +186,7 @@ module _ (scene : Scene) (around : Around) (stands : BlockStandsIn scene around)
             before = λ e reader t at low share. begins.before e reader t at (earlier scene around sites c cs from old mid new next m rest along agree e t at low) share;
           })
 
-      kept : (i : ℕ) → IsOutside c.first (accesses_of c.command) i → given_at_paths mid.accesses i ≡ given_at_paths old.accesses i
+      kept : (i : ℕ) → IsOutsideRange c.first (accesses_of c.command) i → given_at_paths mid.accesses i ≡ given_at_paths old.accesses i
       kept i out = ap length_given (number.only i out)
 
       begins_rest : BeginsAt mid.accesses (c.first + accesses_of c.command)

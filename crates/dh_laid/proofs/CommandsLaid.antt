@@ -30,7 +30,7 @@ use Rattle.dh_commands.specs.LanesRun.{lane_of, paths_counted}
 use Rattle.dh_commands.specs.MadeCommands.{AssignedTo, ClearedTo, Commanding, MadeActionForm, MadeActions, MadeArm, MadeAssigned, MadeCleared, MadeReduced, MadeStored, ReducedTo, StoredTo, MadeBoth, MadeCommand, MadeGroups, MadeIf, MadeKept, MadeNoArm, MadeOther, MadeTested, MadeTests, MadeView}
 use Rattle.dh_commands.specs.Undone.{AreReady}
 use Rattle.dh_commands.proofs.ArmsLeft.{AreSame, same_ready}
-use Rattle.dh_laid.specs.Laid.{AreHeld, AreLeft, TestsAreTruths, AreGuardsThere, FormsAround, FormsGuards, FormsJoined, FormsTested, FormsTests, FormsThere, LeftHolds, StandsRound, aim_accesses}
+use Rattle.dh_laid.specs.Laid.{AreHeld, AreLeftByArms, TestsAreTruths, AreGuardsThere, FormsAround, FormsGuards, FormsJoined, FormsTested, FormsTests, FormsThere, LeftHolds, StandsRound, aim_accesses}
 use Rattle.dh_laid.specs.LaidCommands.{AssignmentSuits, ClearingSuits, ReducingSuits, StoreSuits, ActionSuits, ActionsSuit, AreFew, AreFewActions, AreFewGroups, AreFewIn, AreFewOf, AreFewOther, AreLogged, CommandSuits, CommandsForm, FormsCommand, GroupsForm, GroupsSuit, KeepingSuits, OtherSuits, StandsHeld, TestSuits}
 use Rattle.dh_laid.proofs.ArmsLaid.{arm_guards_form}
 use Rattle.dh_laid.proofs.ChoicesLaid.{truths_later}
@@ -197,9 +197,9 @@ module _ (scene : Scene) (Chosen Other : Around → (tests : List ℕ) → (old 
       → FormsEnded x m.tested m.after_chosen m.chosen_left → FormsEnded x m.after_chosen m.after_other m.other_left → FormsThere x old new
   joined_there x a s h ready f0 truths f1 f2 =
       let both : Extends m.tested.draft m.after_other.draft = extends_again m.tested.draft m.after_chosen.draft m.after_other.draft chosen.extends other.extends in
-      let c1 : AreLeft x m.after_other.draft m.after_other.values m.chosen_left =
+      let c1 : AreLeftByArms x m.after_other.draft m.after_other.values m.chosen_left =
       record { left = chosen_is_left ready; hold = lefts_later x m.after_chosen.draft m.after_other.draft m.chosen_left other.extends f1.hold } in
-      let c2 : AreLeft x m.after_other.draft m.after_other.values m.other_left = record { left = other_is_left ready; hold = f2.hold } in
+      let c2 : AreLeftByArms x m.after_other.draft m.after_other.values m.other_left = record { left = other_is_left ready; hold = f2.hold } in
       let f : FormsThere x m.after_other new =
       joins.forms x a (started_later x old.draft m.after_other.draft to_other s) (truths_later x m.tested.draft m.after_other.draft m.tests both truths) f2.there.notes f2.there.held h.ready h.long c1 c2 in
       record {

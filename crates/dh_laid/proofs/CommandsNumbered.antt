@@ -31,7 +31,7 @@ use Rattle.dh_commands.specs.LanesRun.{lane_of, paths_counted}
 use Rattle.dh_commands.specs.MadeCommands.{AssignedTo, ClearedTo, Commanding, MadeActions, MadeAim, MadeArm, MadeAssigned, MadeCleared, MadeCommand, MadeGroups, MadeIf, MadeKept, MadeLanes, MadeOther, MadeReduced, MadeStored, MadeStoring, MadeTests, MadeView, ReducedTo, StoredTo}
 use Rattle.dh_laid.specs.Laid.{aim_accesses}
 use Rattle.dh_laid.specs.LaidCommands.{AreFew, AreFewActions, AreFewGroups, AreFewIn, AreFewOther}
-use Rattle.dh_laid.specs.LaidNumbers.{AreStraight, AreStraightGroups, CommandsNumber, GroupsNumber, IsAccessForm, IsOutside, IsStraight, IsStraightOther, NumbersLaid, ReachingNumber, StoresReach, StoresReachGroups, StoresReachOther, StoresReachPart}
+use Rattle.dh_laid.specs.LaidNumbers.{AreStraight, AreStraightGroups, CommandsNumber, GroupsNumber, IsAccessForm, IsOutsideRange, IsStraightAction, IsStraightOther, NumbersLaid, ReachingNumber, StoresReach, StoresReachGroups, StoresReachOther, StoresReachPart}
 use Rattle.dh_laid.proofs.ValuesLogged.{arm_long, tests_same}
 
 -- Numbers.
@@ -39,15 +39,15 @@ use Rattle.dh_laid.proofs.ValuesLogged.{arm_long, tests_same}
 behind_is : (number own : ℕ) → number ≡ own → own + 1 < 2 ^ 32 → number_behind number ≡ own + 1
 behind_is number own is few = grind (arith, is, few)
 
-outside_front : (n a b m : ℕ) → IsOutside n (a + b) m → IsOutside n a m
+outside_front : (n a b m : ℕ) → IsOutsideRange n (a + b) m → IsOutsideRange n a m
 outside_front n a b m (inl less) = inl less
 outside_front n a b m (inr more) = inr (omega (arith, more))
 
-outside_behind : (n own a b m : ℕ) → own ≡ n + a → IsOutside n (a + b) m → IsOutside own b m
+outside_behind : (n own a b m : ℕ) → own ≡ n + a → IsOutsideRange n (a + b) m → IsOutsideRange own b m
 outside_behind n own a b m is (inl less) = inl (omega (arith, is, less))
 outside_behind n own a b m is (inr more) = inr (omega (arith, is, more))
 
-outside_last : (n own a m : ℕ) → own ≡ n + a → IsOutside n (suc a) m → m ≡ own → ⊥
+outside_last : (n own a m : ℕ) → own ≡ n + a → IsOutsideRange n (suc a) m → m ≡ own → ⊥
 outside_last n own a m is (inl less) same = omega (arith, is, less, same)
 outside_last n own a m is (inr more) same = omega (arith, is, more, same)
 
@@ -71,7 +71,7 @@ numbers_then a b d first own next c e h k =
 -- Paths.
 
 module _ (One : ℕ → (b d : Building) → ℕ → Type 0) (first count : ℕ) (each : (n : ℕ) (b d : Building) (k : ℕ) → One n b d k → NumbersLaid b d first count k) where
-  lanes_only : (paths : ℕ) (old new : Building) (next : ℕ) → MadeLanes One paths first old new next → (number : ℕ) → IsOutside first count number → touched_in new.accesses number ≡ touched_in old.accesses number
+  lanes_only : (paths : ℕ) (old new : Building) (next : ℕ) → MadeLanes One paths first old new next → (number : ℕ) → IsOutsideRange first count number → touched_in new.accesses number ≡ touched_in old.accesses number
   lanes_only zero old new next m number out = ap (λ (b : Building). touched_in b.accesses number) m.0
   lanes_only (suc n) old new next m number out = (each n m.0 new next m.1.1.1).only number out ∙ lanes_only n old m.0 m.1.0 m.1.1.0 number out
 
@@ -84,7 +84,7 @@ module _ (One : ℕ → (b d : Building) → ℕ → Type 0) (first count : ℕ)
 
 -- tests
 tests_only : (scene : Scene) (around : Around) (first : ℕ) (t : Term) → AreFewIn first t → (paths : ℕ) (old new : Building) (next : ℕ) (tests : List ℕ) → MadeTests scene around first t paths old new next tests
-    → (number : ℕ) → IsOutside first (term_accesses t) number → touched_in new.accesses number ≡ touched_in old.accesses number
+    → (number : ℕ) → IsOutsideRange first (term_accesses t) number → touched_in new.accesses number ≡ touched_in old.accesses number
 tests_only scene around first t few zero old new next tests m number out = ap (λ (b : Building). touched_in b.accesses number) m.0
 tests_only scene around first t few (suc n) old new next tests m number out =
     touched_own scene (lane_of around n) (m.0).values.current.items t (m.0).draft new.draft (m.0).accesses new.accesses first next m.1.1.1.0 (m.1.1.1.1.1.0).term few number out
@@ -114,10 +114,10 @@ term_number scene lane first t old new middle next value m few = record {
 module _ (scene : Scene) (lane : Lane) (current : List (Option ℕ)) (t : Term) (value : ℕ) (middle end : Draft) (between behind : Accesses) (new : Building) (own next : ℕ) where
   record Stored (count : ℕ) : Type 0 where
     next_is : next ≡ own + count
-    only : (number : ℕ) → IsOutside own count number → touched_in new.accesses number ≡ touched_in between number
+    only : (number : ℕ) → IsOutsideRange own count number → touched_in new.accesses number ≡ touched_in between number
 
   written_number : (target : Term) (memory : ℕ) (aim : Aim) (count : ℕ) → aim.number ≡ own + count → own + suc count < 2 ^ 32
-      → ((number : ℕ) → IsOutside own count number → touched_in behind number ≡ touched_in between number) → MadeStoring scene lane target t value (Some (aim, memory)) end behind new next → Stored (suc count)
+      → ((number : ℕ) → IsOutsideRange own count number → touched_in behind number ≡ touched_in between number) → MadeStoring scene lane target t value (Some (aim, memory)) end behind new next → Stored (suc count)
   written_number target memory aim count is few before m = record {
     next_is = m.1.1.1.1 ∙ (behind_is aim.number (own + count) is (omega (arith, few)) ∙ omega arith);
     only = λ number out.
@@ -125,7 +125,7 @@ module _ (scene : Scene) (lane : Lane) (current : List (Option ℕ)) (t : Term) 
         ∙ before number (shorter number out);
   }
     where
-      shorter : (number : ℕ) → IsOutside own (suc count) number → IsOutside own count number
+      shorter : (number : ℕ) → IsOutsideRange own (suc count) number → IsOutsideRange own count number
       shorter number (inl less) = inl less
       shorter number (inr more) = inr (omega (arith, more))
 
@@ -318,7 +318,7 @@ module _ (scene : Scene) where
   -- Straight commands are so.
 
   mutual
-    pub straight_reaches : (a : Action) → IsStraight a → StoresReach a
+    pub straight_reaches : (a : Action) → IsStraightAction a → StoresReach a
     straight_reaches (action id place (lets name declared value)) is = tt
     straight_reaches (action id place (assigns target value)) is = tt
     straight_reaches (action id place (stores target value)) is = is
@@ -343,7 +343,7 @@ module _ (scene : Scene) where
     groups_reach no_groups is = tt
     groups_reach (group_then part rest) is = (part_reaches part is.0, groups_reach rest is.1)
 
-  pub command_numbered : (a : Action) (around : Around) (old new : Building) (first next : ℕ) (m : MadeCommand scene a around old new first next) → IsStraight a → 0 < paths_counted around → first + accesses_of a < 2 ^ 32
+  pub command_numbered : (a : Action) (around : Around) (old new : Building) (first next : ℕ) (m : MadeCommand scene a around old new first next) → IsStraightAction a → 0 < paths_counted around → first + accesses_of a < 2 ^ 32
       → AreFew scene a around old new first next m × NumbersLaid old new first (accesses_of a) next
   command_numbered a around old new first next m is some few = command_reached a around old new first next m (straight_reaches a is) some few
 

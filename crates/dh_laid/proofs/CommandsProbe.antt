@@ -56,7 +56,7 @@ use Rattle.dh_commands.specs.declared.choices.Left.{Left}
 use Rattle.dh_commands.specs.LanesRun.{lane_of, paths_counted}
 use Rattle.dh_commands.specs.MadeCommands.{Commanding, FoldedWith, MadeActions, MadeAim, MadeArm, MadeArmGuard, MadeArmGuards, MadeAssigned, MadeBehind, MadeChoiceBy, MadeChoices, MadeCleared, MadeCommand, MadeGroups, MadeGuard, MadeHolds, MadeKept, MadeLanes, MadeOldOperand, MadeOperand, MadeOther, MadeOutcome, MadeReduced, MadeStored, MadeStoring, MadeTests, MadeView}
 use Rattle.dh_laid.specs.LaidCommands.{AreFewIn}
-use Rattle.dh_laid.specs.LaidNumbers.{AreStraight, AreStraightGroups, IsAccessForm, IsStraight, IsStraightOther}
+use Rattle.dh_laid.specs.LaidNumbers.{AreStraight, AreStraightGroups, IsAccessForm, IsStraightAction, IsStraightOther}
 use Rattle.dh_laid.specs.LaidProbes.{AddsProbes, CommandsProbe, GroupsProbe}
 use Rattle.dh_laid.specs.LaidQuiet.{BlockStandsIn}
 use Rattle.dh_laid.proofs.CommandsNumbered.{actions_numbered, command_numbered, some_arm, tests_number}
@@ -426,7 +426,7 @@ module _ (scene : Scene) where
       (λ n b d k one. kept_probed scene (lane_of around n) s first h.entity (offsets_of form) b d k few one) (paths_counted around) old new next m)
 
   mutual
-    pub command_probed : (a : Action) (around : Around) (old new : Building) (first next : ℕ) → BlockStandsIn scene around → MadeCommand scene a around old new first next → IsStraight a → 0 < paths_counted around → first + accesses_of a < 2 ^ 32
+    pub command_probed : (a : Action) (around : Around) (old new : Building) (first next : ℕ) → BlockStandsIn scene around → MadeCommand scene a around old new first next → IsStraightAction a → 0 < paths_counted around → first + accesses_of a < 2 ^ 32
         → AddsProbes old.draft new.draft (often first (accesses_of a) (paths_counted around))
     command_probed (action id place (lets name declared (Some value))) around old new first next s m is some few =
         own_probed old.draft new.draft first (term_accesses value) (paths_counted around)

@@ -28,7 +28,7 @@ use Rattle.dh_commands.specs.MadeCommands.{Commanding, MadeActions, MadeArm, Mad
 use Rattle.dh_laid.specs.BlockSites.{HasSites, actions_sites, all_there, command_sites, groups_sites, other_sites, target_sites, term_sites, terms_sites, view_sites}
 use Rattle.dh_laid.specs.Laid.{aim_accesses}
 use Rattle.dh_laid.specs.LaidCommands.{AreFewIn}
-use Rattle.dh_laid.specs.LaidNumbers.{IsAccessForm, IsOutside, NumbersLaid, StoresReach, StoresReachGroups, StoresReachOther, StoresReachPart}
+use Rattle.dh_laid.specs.LaidNumbers.{IsAccessForm, IsOutsideRange, NumbersLaid, StoresReach, StoresReachGroups, StoresReachOther, StoresReachPart}
 use Rattle.dh_laid.specs.LaidQuiet.{BlockStandsIn}
 use Rattle.dh_laid.specs.LaidUses.{AddsLedUses, used_by, EachWrite, EachWriteActions, EachWriteGroups, EachWriteOther, IsUnshared, PathsLead, SharesInside, used_to}
 use Rattle.dh_laid.proofs.CommandsNumbered.{actions_reached, aims_within, arm_number, command_reached, groups_reached, numbers_then, other_reached, some_arm, tests_number}
@@ -63,7 +63,7 @@ pub record Used (scene : Scene) (sites : ℕ → Option BlockSite) (paths : ℕ)
 pub record UsedTo (scene : Scene) (sites : ℕ → Option BlockSite) (old new : Building) (paths first count all : ℕ) : Type 0 where
   pub uses : AddsLedUses scene sites old.draft new.draft (ranged first all (used_to scene sites paths))
   pub own : (m : ℕ) → first ≤ m → m < first + count → given_at_paths new.accesses m ≡ paths
-  pub others : (m : ℕ) → IsOutside first count m → given_at_paths new.accesses m ≡ given_at_paths old.accesses m
+  pub others : (m : ℕ) → IsOutsideRange first count m → given_at_paths new.accesses m ≡ given_at_paths old.accesses m
   pub led : AreLed sites new.accesses
 
 -- accesses that have sites, so many from a first one on
@@ -115,7 +115,7 @@ module _ (scene : Scene) (sites : ℕ → Option BlockSite) (inside : SharesInsi
         one : (n : ℕ) → n + 1 ≡ suc n
         one n = omega arith
 
-        kept : (m : ℕ) → IsOutside first count m → given_at_paths new.accesses m ≡ given_at_paths b.accesses m
+        kept : (m : ℕ) → IsOutsideRange first count m → given_at_paths new.accesses m ≡ given_at_paths b.accesses m
         kept m (inl less) = h.given.before_them m less
         kept m (inr more) = h.given.behind_them m more
 
@@ -161,7 +161,7 @@ module _ (scene : Scene) (sites : ℕ → Option BlockSite) (inside : SharesInsi
   begins_first : (paths : ℕ) (a : Accesses) (first p q : ℕ) → Begins scene sites paths a first (p + q) → Begins scene sites paths a first p
   begins_first paths a first p q b = record { led = b.led; fresh = λ m s at from below. b.fresh m s at from (omega (arith, below)); before = b.before }
 
-  given_kept : (a b : Building) (first own count : ℕ) (m : ℕ) → NumbersLaid a b first count own → IsOutside first count m → given_at_paths b.accesses m ≡ given_at_paths a.accesses m
+  given_kept : (a b : Building) (first own count : ℕ) (m : ℕ) → NumbersLaid a b first count own → IsOutsideRange first count m → given_at_paths b.accesses m ≡ given_at_paths a.accesses m
   given_kept a b first own count m h out = ap length_given (h.only m out)
 
   begins_then : (paths : ℕ) (a b : Building) (first own p q : ℕ) → Begins scene sites paths a.accesses first (p + q) → Used scene sites paths a b first p → NumbersLaid a b first p own → Begins scene sites paths b.accesses own q

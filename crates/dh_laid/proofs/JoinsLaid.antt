@@ -14,7 +14,7 @@ use Rattle.dh_commands.specs.declared.choices.Left.{Left}
 use Rattle.dh_commands.specs.Joined.{IsLeft, JoinsArms}
 use Rattle.dh_commands.specs.Undone.{AreReady, left_at, lefts_of, first_left, undone, value_left}
 use Rattle.dh_commands.proofs.JoinedArms.{first_has}
-use Rattle.dh_laid.specs.Laid.{AreHeld, AreLeft, ArmsLeave, ChoicesSuit, FormsChoices, HadKind, HoldsKind, JoinsForm, LeftHolds}
+use Rattle.dh_laid.specs.Laid.{AreHeld, AreLeftByArms, ArmsLeave, ChoicesSuit, FormsChoices, HadKind, HoldsKind, JoinsForm, LeftHolds}
 use Rattle.dh_laid.proofs.ChoicesLaid.{choices_form}
 use Rattle.dh_laid.proofs.ValuesLaid.{AllHold, all_drop, given_there, hold_undone}
 
@@ -51,7 +51,7 @@ held_joined x d old new chosen other choices j h = record {
 }
 
 choices_suit : (x : FormedBlock) (d : Draft) (old new : Values) (chosen other : List Left) (choices : List Choice) → JoinsArms old new chosen other choices → AreReady old → length old.current.items ≤ length x.plan.registers
-    → AreLeft x d old chosen → AreLeft x d old other → ChoicesSuit x d choices
+    → AreLeftByArms x d old chosen → AreLeftByArms x d old other → ChoicesSuit x d choices
 choices_suit x d old new chosen other choices j ready long c1 c2 k c at =
     let are = j.are ready c1.left c2.left in
     let is = are.are k c at in

@@ -14,7 +14,7 @@ use Rattle.dh_meaning.specs.Core.{CoreCommands, CoreTerm, CoreTerms, no_commands
 use Rattle.dh_meaning.specs.CoreOf.{Known, core_action, core_groups, core_other, core_part, core_term, core_terms, depth_of, entity_number, extended, extended_both, kept_by, kept_terms, kind_of, operation_of, store_to, target_to, terms_both, way_of}
 use Rattle.dh_meaning.specs.Ways.{Hidden, Way, hidden_in}
 use Rattle.dh_plan.specs.DoneProgram.{command_products, commands_products, product_of, target_products, term_products, terms_products}
-use Rattle.dh_laid.specs.LaidNumbers.{AreStraight, AreStraightGroups, IsAccessForm, IsStraight, IsStraightOther}
+use Rattle.dh_laid.specs.LaidNumbers.{AreStraight, AreStraightGroups, IsAccessForm, IsStraightAction, IsStraightOther}
 use Rattle.dh_laid.specs.LaidProducts.{CommandsMultiply, GroupsMultiply, TermsMultiply, action_products, aim_products, all_products_in, groups_products, offset_products, other_products, part_products, products_in}
 
 extended_products : (k : Kind) (t : CoreTerm) → term_products (extended k t) ≡ term_products t
@@ -121,7 +121,7 @@ module _ (known : Known) where
   kept_products (h ∷ hs) n (plain.term_then t ts) rest = one_more (terms_products (core_terms known n (plain.term_then t ts))) (all_products_in (plain.term_then t ts)) (commands_products rest) (terms_same n (plain.term_then t ts))
 
   mutual
-    action_same : (n : ℕ) (a : Action) (rest : CoreCommands) → IsStraight a → commands_products (core_action known n a rest) ≡ action_products known a + commands_products rest
+    action_same : (n : ℕ) (a : Action) (rest : CoreCommands) → IsStraightAction a → commands_products (core_action known n a rest) ≡ action_products known a + commands_products rest
     action_same n (action id place (lets name declared (Some value))) rest is = one_more _ (products_in value) (commands_products rest) (term_same n value)
     action_same n (action id place (lets name declared None)) rest is = refl
     action_same n (action id place (assigns target value)) rest is = one_more _ (products_in value) (commands_products rest) (term_same n value)

@@ -186,7 +186,7 @@ ArmsLeave =
     → AllByRecursion (LeftHolds x d) lefts
 
 -- what both arms of an `if` left
-pub record AreLeft (x : FormedBlock) (d : Draft) (v : Values) (lefts : List Left) : Type 0 where
+pub record AreLeftByArms (x : FormedBlock) (d : Draft) (v : Values) (lefts : List Left) : Type 0 where
   pub left : AllByRecursion (IsLeft v.current.items) lefts
   pub hold : AllByRecursion (LeftHolds x d) lefts
 
@@ -194,7 +194,7 @@ pub record AreLeft (x : FormedBlock) (d : Draft) (v : Values) (lefts : List Left
 pub record FormsJoined (tests : List ℕ) (chosen other : List Left) (old new : Building) : Type 0 where
   pub extends : Extends old.draft new.draft
   pub forms : (x : FormedBlock) → Agrees x new.draft → Started x old.draft → TestsAreTruths x old.draft tests → AreNotedReads x old.draft old.accesses → AreHeld x old.draft old.values → AreReady old.values
-      → length old.values.current.items ≤ length x.plan.registers → AreLeft x old.draft old.values chosen → AreLeft x old.draft old.values other → FormsThere x old new
+      → length old.values.current.items ≤ length x.plan.registers → AreLeftByArms x old.draft old.values chosen → AreLeftByArms x old.draft old.values other → FormsThere x old new
 
 abbrev pub JoinsForm : Type 0
 JoinsForm = (tests : List ℕ) (chosen other : List Left) (old new : Building) → MadeJoined tests chosen other old new → FormsJoined tests chosen other old new

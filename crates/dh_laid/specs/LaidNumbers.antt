@@ -26,15 +26,15 @@ IsAccessForm (plain.converted inner to) = ⊥
 
 abbrev mutual
   -- no loop is in a command and no view that moves, and its stores are into accesses
-  pub IsStraight : Action → Type 0
-  IsStraight (action id place form) = IsStraightForm form
+  pub IsStraightAction : Action → Type 0
+  IsStraightAction (action id place form) = IsStraightForm form
 
   pub IsStraightForm : ActionForm → Type 0
   IsStraightForm (lets name declared value) = Unit {0}
   IsStraightForm (assigns target value) = Unit {0}
   IsStraightForm (stores target value) = IsAccessForm (form_of target)
   IsStraightForm (reduces target op value) = Unit {0}
-  IsStraightForm (decides test chosen other) = IsStraight chosen × IsStraightOther other
+  IsStraightForm (decides test chosen other) = IsStraightAction chosen × IsStraightOther other
   IsStraightForm (blocks body) = AreStraightGroups body
   IsStraightForm (lets_memory name shape shape_places value) = Unit {0}
   IsStraightForm (views name parent form) = offsets_of form ≡ []
@@ -44,11 +44,11 @@ abbrev mutual
 
   pub IsStraightOther : MaybeAction → Type 0
   IsStraightOther no_action = Unit {0}
-  IsStraightOther (one_action a) = IsStraight a
+  IsStraightOther (one_action a) = IsStraightAction a
 
   pub AreStraight : Actions → Type 0
   AreStraight no_actions = Unit {0}
-  AreStraight (action_then a rest) = IsStraight a × AreStraight rest
+  AreStraight (action_then a rest) = IsStraightAction a × AreStraight rest
 
   pub AreStraightGroups : Groups → Type 0
   AreStraightGroups no_groups = Unit {0}
@@ -85,17 +85,17 @@ abbrev mutual
   StoresReachGroups (group_then part rest) = StoresReachPart part × StoresReachGroups rest
 
 -- a number is none of these
-abbrev pub IsOutside : (first count number : ℕ) → Type 0
-IsOutside first count number = (number < first) ⊎ (first + count ≤ number)
+abbrev pub IsOutsideRange : (first count number : ℕ) → Type 0
+IsOutsideRange first count number = (number < first) ⊎ (first + count ≤ number)
 
 -- as many accesses were put down, from a first one on, and no others were touched
 pub record NumbersLaid (old new : Building) (first count next : ℕ) : Type 0 where
   pub next_is : next ≡ first + count
-  pub only : (number : ℕ) → IsOutside first count number → touched_in new.accesses number ≡ touched_in old.accesses number
+  pub only : (number : ℕ) → IsOutsideRange first count number → touched_in new.accesses number ≡ touched_in old.accesses number
 
 abbrev pub CommandsNumber : Type 0
 CommandsNumber =
-    (scene : Scene) (a : Action) (around : Around) (old new : Building) (first next : ℕ) (m : MadeCommand scene a around old new first next) → IsStraight a → 0 < paths_counted around → first + accesses_of a < 2 ^ 32
+    (scene : Scene) (a : Action) (around : Around) (old new : Building) (first next : ℕ) (m : MadeCommand scene a around old new first next) → IsStraightAction a → 0 < paths_counted around → first + accesses_of a < 2 ^ 32
     → AreFew scene a around old new first next m × NumbersLaid old new first (accesses_of a) next
 
 -- so also of a command with loops in it that have no phase, or with views: their accesses have numbers, and no operations

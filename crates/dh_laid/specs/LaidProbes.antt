@@ -11,7 +11,7 @@ use Rattle.dh_formed.specs.Counted.{ranged}
 use Rattle.dh_commands.specs.declared.buildings.Building.{Building}
 use Rattle.dh_commands.specs.LanesRun.{paths_counted}
 use Rattle.dh_commands.specs.MadeCommands.{MadeCommand, MadeGroups}
-use Rattle.dh_laid.specs.LaidNumbers.{AreStraightGroups, IsStraight}
+use Rattle.dh_laid.specs.LaidNumbers.{AreStraightGroups, IsStraightAction}
 use Rattle.dh_laid.specs.LaidQuiet.{BlockStandsIn}
 
 -- so many probes of each access were added
@@ -22,7 +22,7 @@ pub record AddsProbes (old new : Draft) (probes : (access : ℕ) → ℕ) : Type
 
 abbrev pub CommandsProbe : Type 0
 CommandsProbe =
-    (scene : Scene) (a : Action) (around : Around) (old new : Building) (first next : ℕ) → BlockStandsIn scene around → MadeCommand scene a around old new first next → IsStraight a → 0 < paths_counted around
+    (scene : Scene) (a : Action) (around : Around) (old new : Building) (first next : ℕ) → BlockStandsIn scene around → MadeCommand scene a around old new first next → IsStraightAction a → 0 < paths_counted around
     → first + accesses_of a < 2 ^ 32 → AddsProbes old.draft new.draft (ranged first (accesses_of a) (λ access. paths_counted around))
 
 abbrev pub GroupsProbe : Type 0

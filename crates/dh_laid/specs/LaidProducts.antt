@@ -17,7 +17,7 @@ use Rattle.dh_expressions.specs.Evaluated.{known_in}
 use Rattle.dh_commands.specs.declared.buildings.Building.{Building}
 use Rattle.dh_commands.specs.LanesRun.{paths_counted}
 use Rattle.dh_commands.specs.MadeCommands.{MadeCommand, MadeGroups}
-use Rattle.dh_laid.specs.LaidNumbers.{AreStraightGroups, IsStraight}
+use Rattle.dh_laid.specs.LaidNumbers.{AreStraightGroups, IsStraightAction}
 use Rattle.dh_laid.specs.LaidQuiet.{BlockStandsIn}
 
 abbrev mutual
@@ -101,7 +101,7 @@ abbrev pub TermsMultiply : Type 0
 TermsMultiply = (known : Known) (n : ℕ) (t : plain.Term) → term_products (core_term known n t) ≡ products_in t
 
 abbrev pub CommandsMultiply : Type 0
-CommandsMultiply = (known : Known) (n : ℕ) (a : Action) (rest : CoreCommands) → IsStraight a → commands_products (core_action known n a rest) ≡ action_products known a + commands_products rest
+CommandsMultiply = (known : Known) (n : ℕ) (a : Action) (rest : CoreCommands) → IsStraightAction a → commands_products (core_action known n a rest) ≡ action_products known a + commands_products rest
 
 abbrev pub GroupsMultiply : Type 0
 GroupsMultiply = (known : Known) (n : ℕ) (body : Groups) (rest : CoreCommands) → AreStraightGroups body → commands_products (core_groups known n body rest) ≡ groups_products known body + commands_products rest

@@ -10,8 +10,8 @@ abbrev pub banks : Spending → ℕ
 banks s = length s.spent
 
 -- so many zeros: the numbers of so many banks where nothing is spent
-abbrev pub zeros : ℕ → List ℕ
-zeros n = replicate n 0
+abbrev pub zero_counts : ℕ → List ℕ
+zero_counts n = replicate n 0
 
 -- how many ports of a bank are spent; 0 past the last bank
 abbrev pub spent_on : Spending → ℕ → ℕ
@@ -22,31 +22,31 @@ abbrev pub raised : Spending → ℕ → ℕ → Spending
 raised s bank count = record { ports = s.ports; spent = slice_set s.spent bank (spent_on s bank + count) }
 
 -- no bank has spent more than its ports
-abbrev pub IsWithin : Spending → Type 0
-IsWithin s = (bank : ℕ) → spent_on s bank ≤ s.ports
+abbrev pub IsWithinPorts : Spending → Type 0
+IsWithinPorts s = (bank : ℕ) → spent_on s bank ≤ s.ports
 
 -- they are of the same banks and ports
-pub record AreAlike (a b : Spending) : Type 0 where
+pub record SpendingsAreAlike (a b : Spending) : Type 0 where
   pub banks : banks a ≡ banks b
   pub ports : a.ports ≡ b.ports
 
 -- what is true of every call: banks and ports stay, and no bank has spent more than its ports
-pub record Keeps (old new : Spending) : Type 0 where
-  pub alike : AreAlike old new
-  pub within : IsWithin new
+pub record KeepsPortLimits (old new : Spending) : Type 0 where
+  pub alike : SpendingsAreAlike old new
+  pub within : IsWithinPorts new
 
 -- each bank has the larger of its two numbers
 pub record IsLarger (a b larger : Spending) : Type 0 where
-  pub alike : AreAlike a larger
+  pub alike : SpendingsAreAlike a larger
   pub each : (bank : ℕ) → spent_on larger bank ≡ max (spent_on a bank) (spent_on b bank)
 
 -- no bank has spent less in the upper one
-pub record IsBelow (lower upper : Spending) : Type 0 where
-  pub alike : AreAlike lower upper
+pub record IsSpendingBelow (lower upper : Spending) : Type 0 where
+  pub alike : SpendingsAreAlike lower upper
   pub each : (bank : ℕ) → spent_on lower bank ≤ spent_on upper bank
 
 -- it is the least state above both
 pub record IsLeastAbove (a b above : Spending) : Type 0 where
-  pub first : IsBelow a above
-  pub second : IsBelow b above
-  pub least : (s : Spending) → IsBelow a s → IsBelow b s → IsBelow above s
+  pub first : IsSpendingBelow a above
+  pub second : IsSpendingBelow b above
+  pub least : (s : Spending) → IsSpendingBelow a s → IsSpendingBelow b s → IsSpendingBelow above s

@@ -1,7 +1,7 @@
 //! A ledger that keeps one number for each bank.
 
 ghost use Rattle.std.specs.Prelude.{◌≡◌, ◌≤◌};
-ghost use Rattle.dh_ledger.specs.Spending.{zeros};
+ghost use Rattle.dh_ledger.specs.Spending.{zero_counts};
 ghost use Rattle.dh_ledger.specs.Counts.{AreLarger};
 
 use crate::ledgers::{Full, Ledger};
@@ -26,13 +26,13 @@ impl Model for CountLedger {
 
     ghost Value = { Spending };
 
-    ghost use Rattle.dh_ledger.specs.Counts.{state_of, IsKept, inside_of, padded};
+    ghost use Rattle.dh_ledger.specs.Counts.{held_spending, HasFittingCounts, spending_fields, padded};
 
-    ghost view = { state_of };
+    ghost view = { held_spending };
 
-    ghost invariant = { IsKept };
+    ghost invariant = { HasFittingCounts };
 
-    ghost inverse = { inside_of };
+    ghost inverse = { spending_fields };
 
     ghost inverse_ok = { λ l h i. record {
       counts = padded l.counts l.banks h.long h.banks_fit h.none_past i;
@@ -46,7 +46,7 @@ impl CountLedger {
     pub fn new(banks: u32, ports: u32) -> CountLedger
         requires banks { banks ≤ 64 }
         requires ports { ports ≤ 8 }
-        ensures { result ≡ record { ports = ports; spent = zeros banks } }
+        ensures { result ≡ record { ports = ports; spent = zero_counts banks } }
     {
         CountLedger {
             counts: [0; MAX_BANKS],

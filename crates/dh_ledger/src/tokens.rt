@@ -2,7 +2,7 @@
 //! it can't be copied or dropped, is made by a grant alone, and is taken apart once.
 
 ghost use Rattle.std.specs.Prelude.{◌≡◌, ◌<◌};
-ghost use Rattle.dh_ledger.specs.Spending.{banks, Keeps};
+ghost use Rattle.dh_ledger.specs.Spending.{banks, KeepsPortLimits};
 ghost use Rattle.dh_ledger.specs.Calls.{Grants};
 
 use crate::ledgers::{Full, Ledger};
@@ -51,7 +51,7 @@ impl Token {
 pub fn grant<L: Ledger>(l: &mut L, memory: u32, bank: u32, count: u32) -> Result<Token, Full>
     requires bank { bank < banks (L.state l.old) }
     ensures answer { Grants (L.state l.old) (L.state l.new) memory bank count result }
-    ensures keeps { Keeps (L.state l.old) (L.state l.new) }
+    ensures keeps { KeepsPortLimits (L.state l.old) (L.state l.new) }
 {
     let first = l.spend(bank, count)?;
     Ok(Token {

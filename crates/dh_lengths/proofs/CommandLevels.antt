@@ -28,8 +28,8 @@ use Rattle.dh_events.proofs.Turns.{at_item}
 use Rattle.dh_lengths.specs.declared.held.Held.{Held}
 use Rattle.dh_lengths.specs.declared.undoing.Mark.{Mark}
 use Rattle.dh_lengths.specs.SharedReads.{told}
-use Rattle.dh_lengths.specs.Undone.{has_mark, joined_all, mark, marks_now, redone, undone}
-use Rattle.dh_lengths.specs.HeldLevels.{zeros, read_in, variable_in, levels_of, levels_seen, count, leveled, AreSmall, AssignsLevel, IsSound, KeepsVariables, GivesLevel, GivesLevels, LevelsTerm}
+use Rattle.dh_lengths.specs.Undone.{has_mark, joined_all, mark, marks_with_levels, redone, undone_levels}
+use Rattle.dh_lengths.specs.HeldLevels.{zero_levels, read_in, variable_in, levels_of, levels_seen, held_access_count, leveled_with, LevelsAreSmall, AssignsLevel, HasSoundLevels, KeepsVariableLevels, GivesLevel, GivesLevels, LevelsTerm}
 use Rattle.dh_lengths.specs.LeveledCommands.{GivesCommands, LevelsCommand, LevelsReduce}
 use Rattle.dh_lengths.proofs.TermLevels.{counts_on, gives_greatest, gives_still, operation_leveled}
 use Rattle.dh_lengths.proofs.UndoneFacts.{both_undone, joined_both, marks_both, number_swap, put_back, redone_all, undone_both}
@@ -72,8 +72,8 @@ sum_of a b c m n e f = omega (arith, e, f)
 
 -- No command, and commands that set no variable.
 
-pub gives_nothing : (h : Held) (outer : ℕ) → IsSound h → GivesCommands h h outer no_commands 0
-gives_nothing h outer s = record { seen = refl; sound = s; counted = plus_none (count h); shares = refl; first = refl; changes = []; log = sym (append-nil h.log.items); undoes = refl; marks = λ e. refl }
+pub gives_nothing : (h : Held) (outer : ℕ) → HasSoundLevels h → GivesCommands h h outer no_commands 0
+gives_nothing h outer s = record { seen = refl; sound = s; counted = plus_none (held_access_count h); shares = refl; first = refl; changes = []; log = sym (append-nil h.log.items); undoes = refl; marks = λ e. refl }
 
 pub gives_skipped : (old new : Held) (outer n : ℕ) → GivesLevels old new (levels_seen old) n → GivesCommands old new outer no_commands n
 gives_skipped old new outer n g = record {
@@ -120,14 +120,14 @@ pub gives_assign : (old mid new : Held) (outer depth level n : ℕ) (entity : Op
 gives_assign old mid new outer depth level n entity v g a =
     let i = term_leveled (told old.shares.now) outer v (levels_seen old) in
     let e = entity_number entity in
-    let same : count new ≡ count mid = ap length a.reads in
+    let same : held_access_count new ≡ held_access_count mid = ap length a.reads in
     record {
       seen = a.seen ∙ (ap (λ (l : Levels). with_variables l (with_value l.variables e level)) g.seen ∙ ap (λ m. with_variables i.levels (with_value i.levels.variables e m)) g.is);
       sound = record {
-        first = subst (λ (m : ℕ). new.first ≤ m) (sym same) (subst (λ (m : ℕ). m ≤ count mid) (sym a.first) g.sound.first);
-        small = subst (λ (m : ℕ). AreSmall m (levels_seen new)) (sym same) (subst (λ (l : Levels). AreSmall (count mid) l) (sym a.seen)
+        first = subst (λ (m : ℕ). new.first ≤ m) (sym same) (subst (λ (m : ℕ). m ≤ held_access_count mid) (sym a.first) g.sound.first);
+        small = subst (λ (m : ℕ). LevelsAreSmall m (levels_seen new)) (sym same) (subst (λ (l : Levels). LevelsAreSmall (held_access_count mid) l) (sym a.seen)
             (record {
-              variables = λ x. if_low (x == e) level (table_at mid.variables.items x) (count mid) g.low (g.sound.small.variables x);
+              variables = λ x. if_low (x == e) level (table_at mid.variables.items x) (held_access_count mid) g.low (g.sound.small.variables x);
               reads = g.sound.small.reads;
               most = g.sound.small.most;
             }));
@@ -144,16 +144,16 @@ gives_assign old mid new outer depth level n entity v g a =
 pub gives_reduce : {ways : Leads} (old mid new : Held) (outer now first level : ℕ) (r : Ref) (value : Expr) → now ≡ variable_in old.variables.items r.entity → level ≡ max now first → LevelsTerm ways old mid outer value first → AssignsLevel mid new r.entity level → LevelsReduce ways old new outer r value
 gives_reduce old mid new outer now first level r value held most one a known u s low o =
     let l = levels_seen old in
-    let v = core_term known (count old) (term_seen value) in
+    let v = core_term known (held_access_count old) (term_seen value) in
     let k = term_accesses (term_seen value) in
     let g = one known u s low in
     let e = entity_number r.entity in
-    let both = gives_greatest old old mid (leveled (variable_in old.variables.items r.entity) (levels_seen old)) (term_leveled (told old.shares.now) outer (core_term known (count old) (term_seen value)) (levels_seen old)) (variable_in old.variables.items r.entity) first 0 k
+    let both = gives_greatest old old mid (leveled_with (variable_in old.variables.items r.entity) (levels_seen old)) (term_leveled (told old.shares.now) outer (core_term known (held_access_count old) (term_seen value)) (levels_seen old)) (variable_in old.variables.items r.entity) first 0 k
     (gives_still old (variable_in old.variables.items r.entity) s (s.small.variables e)) g in
-    gives_assign old mid new outer (depth_of known r) level k r.entity (operation_of o (kind_of known r) (kind_found (term_seen value)) (variable (kind_of known r) (depth_of known r) e) (core_term known (count old) (term_seen value)))
-    (subst (λ (x : Leveled). GivesLevel old mid x level k) (sym (operation_leveled (told old.shares.now) outer o (kind_of known r) (kind_found (term_seen value)) (variable (kind_of known r) (depth_of known r) e) (core_term known (count old) (term_seen value)) (levels_seen old)))
-    (subst (λ (m : ℕ). GivesLevel old mid (greatest (variable_in old.variables.items r.entity) (term_leveled (told old.shares.now) outer (core_term known (count old) (term_seen value)) (levels_seen old))) m k) (sym (most ∙ ap (λ x. max x first) held))
-    (subst (λ (m : ℕ). GivesLevel old mid (greatest (variable_in old.variables.items r.entity) (term_leveled (told old.shares.now) outer (core_term known (count old) (term_seen value)) (levels_seen old))) (max (variable_in old.variables.items r.entity) first) m) (from_none k) both))) a
+    gives_assign old mid new outer (depth_of known r) level k r.entity (operation_of o (kind_of known r) (kind_found (term_seen value)) (variable (kind_of known r) (depth_of known r) e) (core_term known (held_access_count old) (term_seen value)))
+    (subst (λ (x : Leveled). GivesLevel old mid x level k) (sym (operation_leveled (told old.shares.now) outer o (kind_of known r) (kind_found (term_seen value)) (variable (kind_of known r) (depth_of known r) e) (core_term known (held_access_count old) (term_seen value)) (levels_seen old)))
+    (subst (λ (m : ℕ). GivesLevel old mid (greatest (variable_in old.variables.items r.entity) (term_leveled (told old.shares.now) outer (core_term known (held_access_count old) (term_seen value)) (levels_seen old))) m k) (sym (most ∙ ap (λ x. max x first) held))
+    (subst (λ (m : ℕ). GivesLevel old mid (greatest (variable_in old.variables.items r.entity) (term_leveled (told old.shares.now) outer (core_term known (held_access_count old) (term_seen value)) (levels_seen old))) (max (variable_in old.variables.items r.entity) first) m) (from_none k) both))) a
 
 -- One after the other.
 
@@ -166,12 +166,12 @@ pub gives_both : (a b c : Held) (outer m n : ℕ) (cs ds es : CoreCommands) → 
 gives_both a b c outer m n cs ds es both g h = record {
   seen = h.seen ∙ (ap (λ x. commands_leveled (told x) outer ds (levels_seen b)) g.shares ∙ (ap (λ x. commands_leveled (told a.shares.now) outer ds x) g.seen ∙ sym (both.levels (told a.shares.now) outer (levels_seen a))));
   sound = h.sound;
-  counted = sum_of (count a) (count b) (count c) m n g.counted h.counted;
+  counted = sum_of (held_access_count a) (held_access_count b) (held_access_count c) m n g.counted h.counted;
   shares = h.shares ∙ g.shares;
   first = h.first ∙ g.first;
   changes = g.changes ++ h.changes;
   log = h.log ∙ (ap (λ l. l ++ h.changes) g.log ∙ append_assoc a.log.items g.changes h.changes);
-  undoes = undone_both g.changes h.changes (table_at c.variables.items) ∙ (ap (undone g.changes) h.undoes ∙ g.undoes);
+  undoes = undone_both g.changes h.changes (table_at c.variables.items) ∙ (ap (undone_levels g.changes) h.undoes ∙ g.undoes);
   marks = λ e. marks_both e g.changes h.changes ∙ (or_both _ _ _ _ (g.marks e) (h.marks e) ∙ sym (both.assigns e));
 }
 
@@ -231,12 +231,12 @@ module _ (known : Known) where
 
 pub record PartSo (ways : Leads) (known : Known) (start now : Held) (outer : ℕ) (rest all : List Command) : Type 0 where
   pub led : IsLedBy ways known
-  pub sound : IsSound now
-  pub within : outer ≤ count now
-  pub so : (new : Held) → GivesCommands now new outer (core_part known (count now) (actions (map action_seen rest)) no_commands) (part_accesses (actions (map action_seen rest)))
-      → GivesCommands start new outer (core_part known (count start) (actions (map action_seen all)) no_commands) (part_accesses (actions (map action_seen all)))
+  pub sound : HasSoundLevels now
+  pub within : outer ≤ held_access_count now
+  pub so : (new : Held) → GivesCommands now new outer (core_part known (held_access_count now) (actions (map action_seen rest)) no_commands) (part_accesses (actions (map action_seen rest)))
+      → GivesCommands start new outer (core_part known (held_access_count start) (actions (map action_seen all)) no_commands) (part_accesses (actions (map action_seen all)))
 
-pub part_begin : {ways : Leads} (known : Known) (h : Held) (outer : ℕ) (all : List Command) → IsLedBy ways known → IsSound h → outer ≤ count h → PartSo ways known h h outer all all
+pub part_begin : {ways : Leads} (known : Known) (h : Held) (outer : ℕ) (all : List Command) → IsLedBy ways known → HasSoundLevels h → outer ≤ held_access_count h → PartSo ways known h h outer all all
 part_begin known h outer all u s low = record { led = u; sound = s; within = low; so = λ new g. g }
 
 pub part_turn : {ways : Leads} (known : Known) (start now next : Held) (outer : ℕ) (all : List Command) (i : ℕ) (c : Command) → i < length all → c ≡ get_or all i c → LevelsCommand ways now next outer c → PartSo ways known start now outer (drop i all) all → PartSo ways known start next outer (drop (i + 1) all) all
@@ -247,56 +247,56 @@ part_turn known start now next outer all i c within is one h =
     record {
       led = h.led;
       sound = g.sound;
-      within = counts_on (count now) (count next) (accesses_of (action_seen c)) outer g.counted h.within;
+      within = counts_on (held_access_count now) (held_access_count next) (accesses_of (action_seen c)) outer g.counted h.within;
       so = λ new behind.
           h.so new
-          (subst (λ (l : List Command). GivesCommands now new outer (core_part known (count now) (actions (map action_seen l)) no_commands) (part_accesses (actions (map action_seen l)))) (sym (at_item all i c within is))
-          (gives_both now next new outer (accesses_of (action_seen c)) (part_accesses rest) (core_action known (count now) (action_seen c) no_commands) (core_part known (count now + accesses_of (action_seen c)) rest no_commands) _
-          (front_action known (count now) (action_seen c) (core_part known (count now + accesses_of (action_seen c)) rest no_commands)) g
+          (subst (λ (l : List Command). GivesCommands now new outer (core_part known (held_access_count now) (actions (map action_seen l)) no_commands) (part_accesses (actions (map action_seen l)))) (sym (at_item all i c within is))
+          (gives_both now next new outer (accesses_of (action_seen c)) (part_accesses rest) (core_action known (held_access_count now) (action_seen c) no_commands) (core_part known (held_access_count now + accesses_of (action_seen c)) rest no_commands) _
+          (front_action known (held_access_count now) (action_seen c) (core_part known (held_access_count now + accesses_of (action_seen c)) rest no_commands)) g
           (subst (λ (n : ℕ). GivesCommands next new outer (core_part known n rest no_commands) (part_accesses rest)) g.counted behind)));
     }
 
 pub part_end : {ways : Leads} (known : Known) (start now : Held) (outer : ℕ) (rest all : List Command) → rest ≡ [] → PartSo ways known start now outer rest all
-    → GivesCommands start now outer (core_part known (count start) (actions (map action_seen all)) no_commands) (part_accesses (actions (map action_seen all)))
+    → GivesCommands start now outer (core_part known (held_access_count start) (actions (map action_seen all)) no_commands) (part_accesses (actions (map action_seen all)))
 part_end known start now outer rest all none h =
-    h.so now (subst (λ (l : List Command). GivesCommands now now outer (core_part known (count now) (actions (map action_seen l)) no_commands) (part_accesses (actions (map action_seen l)))) (sym none) (gives_nothing now outer h.sound))
+    h.so now (subst (λ (l : List Command). GivesCommands now now outer (core_part known (held_access_count now) (actions (map action_seen l)) no_commands) (part_accesses (actions (map action_seen l)))) (sym none) (gives_nothing now outer h.sound))
 
 pub record GroupsSo (known : Known) (start now : Held) (outer : ℕ) (rest all : List (Vec Command Global)) : Type 0 where
-  pub sound : IsSound now
-  pub within : outer ≤ count now
-  pub so : (new : Held) → GivesCommands now new outer (core_groups known (count now) (groups (map part_seen rest)) no_commands) (groups_accesses (groups (map part_seen rest)))
-      → GivesCommands start new outer (core_groups known (count start) (groups (map part_seen all)) no_commands) (groups_accesses (groups (map part_seen all)))
+  pub sound : HasSoundLevels now
+  pub within : outer ≤ held_access_count now
+  pub so : (new : Held) → GivesCommands now new outer (core_groups known (held_access_count now) (groups (map part_seen rest)) no_commands) (groups_accesses (groups (map part_seen rest)))
+      → GivesCommands start new outer (core_groups known (held_access_count start) (groups (map part_seen all)) no_commands) (groups_accesses (groups (map part_seen all)))
 
-pub groups_begin : (known : Known) (h : Held) (outer : ℕ) (all : List (Vec Command Global)) → IsSound h → outer ≤ count h → GroupsSo known h h outer all all
+pub groups_begin : (known : Known) (h : Held) (outer : ℕ) (all : List (Vec Command Global)) → HasSoundLevels h → outer ≤ held_access_count h → GroupsSo known h h outer all all
 groups_begin known h outer all s low = record { sound = s; within = low; so = λ new g. g }
 
 pub groups_turn : (known : Known) (start now next : Held) (outer : ℕ) (all : List (Vec Command Global)) (i : ℕ) (part : Vec Command Global) → i < length all → part ≡ get_or all i part
-    → (IsSound now → outer ≤ count now → GivesCommands now next outer (core_part known (count now) (part_seen part) no_commands) (part_accesses (part_seen part))) → GroupsSo known start now outer (drop i all) all → GroupsSo known start next outer (drop (i + 1) all) all
+    → (HasSoundLevels now → outer ≤ held_access_count now → GivesCommands now next outer (core_part known (held_access_count now) (part_seen part) no_commands) (part_accesses (part_seen part))) → GroupsSo known start now outer (drop i all) all → GroupsSo known start next outer (drop (i + 1) all) all
 groups_turn known start now next outer all i part within is one h =
     let g = one h.sound h.within in
     let rest = groups (map part_seen (drop (i + 1) all)) in
     record {
       sound = g.sound;
-      within = counts_on (count now) (count next) (part_accesses (part_seen part)) outer g.counted h.within;
+      within = counts_on (held_access_count now) (held_access_count next) (part_accesses (part_seen part)) outer g.counted h.within;
       so = λ new behind.
           h.so new
-          (subst (λ (l : List (Vec Command Global)). GivesCommands now new outer (core_groups known (count now) (groups (map part_seen l)) no_commands) (groups_accesses (groups (map part_seen l)))) (sym (at_item all i part within is))
-          (gives_both now next new outer (part_accesses (part_seen part)) (groups_accesses rest) (core_part known (count now) (part_seen part) no_commands) (core_groups known (count now + part_accesses (part_seen part)) rest no_commands) _
-          (front_part known (count now) (part_seen part) (core_groups known (count now + part_accesses (part_seen part)) rest no_commands)) g
+          (subst (λ (l : List (Vec Command Global)). GivesCommands now new outer (core_groups known (held_access_count now) (groups (map part_seen l)) no_commands) (groups_accesses (groups (map part_seen l)))) (sym (at_item all i part within is))
+          (gives_both now next new outer (part_accesses (part_seen part)) (groups_accesses rest) (core_part known (held_access_count now) (part_seen part) no_commands) (core_groups known (held_access_count now + part_accesses (part_seen part)) rest no_commands) _
+          (front_part known (held_access_count now) (part_seen part) (core_groups known (held_access_count now + part_accesses (part_seen part)) rest no_commands)) g
           (subst (λ (n : ℕ). GivesCommands next new outer (core_groups known n rest no_commands) (groups_accesses rest)) g.counted behind)));
     }
 
 pub groups_end : (known : Known) (start now : Held) (outer : ℕ) (rest all : List (Vec Command Global)) → rest ≡ [] → GroupsSo known start now outer rest all
-    → GivesCommands start now outer (core_groups known (count start) (groups (map part_seen all)) no_commands) (groups_accesses (groups (map part_seen all)))
+    → GivesCommands start now outer (core_groups known (held_access_count start) (groups (map part_seen all)) no_commands) (groups_accesses (groups (map part_seen all)))
 groups_end known start now outer rest all none h =
-    h.so now (subst (λ (l : List (Vec Command Global)). GivesCommands now now outer (core_groups known (count now) (groups (map part_seen l)) no_commands) (groups_accesses (groups (map part_seen l)))) (sym none) (gives_nothing now outer h.sound))
+    h.so now (subst (λ (l : List (Vec Command Global)). GivesCommands now now outer (core_groups known (held_access_count now) (groups (map part_seen l)) no_commands) (groups_accesses (groups (map part_seen l)))) (sym none) (gives_nothing now outer h.sound))
 
 -- a command by what is seen of its form
 module _ (old new : Held) (outer : ℕ) (c : Command) where
   abbrev FormGives : Known → ActionForm → Type 0
-  FormGives known f = GivesCommands old new outer (core_action_form known (count old) f no_commands) (own_accesses f + inner_accesses f)
+  FormGives known f = GivesCommands old new outer (core_action_form known (held_access_count old) f no_commands) (own_accesses f + inner_accesses f)
 
-  pub by_form : {ways : Leads} (f : ActionForm) → action_form_seen c.form ≡ f → ((known : Known) → IsLedBy ways known → IsSound old → outer ≤ count old → FormGives known f) → LevelsCommand ways old new outer c
+  pub by_form : {ways : Leads} (f : ActionForm) → action_form_seen c.form ≡ f → ((known : Known) → IsLedBy ways known → HasSoundLevels old → outer ≤ held_access_count old → FormGives known f) → LevelsCommand ways old new outer c
   by_form f is h known u s low = subst (λ (x : ActionForm). FormGives known x) (sym is) (h known u s low)
 
 pub with_count : (old new : Held) (outer m n : ℕ) (cs : CoreCommands) → m ≡ n → GivesCommands old new outer cs m → GivesCommands old new outer cs n
@@ -323,12 +323,12 @@ variables_put old new f same is =
     ∙ (ap (λ n. levels_of old.reads.items n new.most new.variables.items) same.first
     ∙ (ap (λ n. levels_of old.reads.items old.first n new.variables.items) same.most ∙ ap (λ (g : ℕ → ℕ). record { variables = g; reads = read_in old.reads.items old.first; most = old.most }) is))
 
-put_sound : (old new : Held) (f : ℕ → ℕ) → SameReads old new → table_at new.variables.items ≡ f → ((e : ℕ) → f e ≤ count old) → IsSound old → IsSound new
+put_sound : (old new : Held) (f : ℕ → ℕ) → SameReads old new → table_at new.variables.items ≡ f → ((e : ℕ) → f e ≤ held_access_count old) → HasSoundLevels old → HasSoundLevels new
 put_sound old new f same is low s =
-    let many : count new ≡ count old = ap length same.reads in
+    let many : held_access_count new ≡ held_access_count old = ap length same.reads in
     record {
-      first = subst (λ (m : ℕ). new.first ≤ m) (sym many) (subst (λ (m : ℕ). m ≤ count old) (sym same.first) s.first);
-      small = subst (λ (m : ℕ). AreSmall m (levels_seen new)) (sym many) (subst (λ (l : Levels). AreSmall (count old) l) (sym (variables_put old new f same is))
+      first = subst (λ (m : ℕ). new.first ≤ m) (sym many) (subst (λ (m : ℕ). m ≤ held_access_count old) (sym same.first) s.first);
+      small = subst (λ (m : ℕ). LevelsAreSmall m (levels_seen new)) (sym many) (subst (λ (l : Levels). LevelsAreSmall (held_access_count old) l) (sym (variables_put old new f same is))
           (record { variables = low; reads = s.small.reads; most = s.small.most }));
     }
 
@@ -347,18 +347,18 @@ inside_low a b n e f = grind (arith, e, f)
 -- the arms, from behind the test on
 pub record Arms (old : Held) (outer : ℕ) (chosen other : CoreCommands) (level inside m n : ℕ) (b b1 c d : Held) : Type 0 where
   pub in_is : inside ≡ max level outer
-  pub one : IsSound old → inside ≤ count old → GivesCommands old b inside chosen m
+  pub one : HasSoundLevels old → inside ≤ held_access_count old → GivesCommands old b inside chosen m
   pub back : SameReads b b1
-  pub back_to : table_at b1.variables.items ≡ undone (drop (length old.log.items) b.log.items) (table_at b.variables.items)
-  pub two : IsSound b1 → inside ≤ count b1 → GivesCommands b1 c inside other n
+  pub back_to : table_at b1.variables.items ≡ undone_levels (drop (length old.log.items) b.log.items) (table_at b.variables.items)
+  pub two : HasSoundLevels b1 → inside ≤ held_access_count b1 → GivesCommands b1 c inside other n
   pub last : SameReads c d
   pub joined : table_at d.variables.items
-      ≡ joined_all level (marks_now (table_at c.variables.items) (drop (length old.log.items) c.log.items))
-      (redone (marks_now (table_at b.variables.items) (drop (length old.log.items) b.log.items)) (undone (drop (length b1.log.items) c.log.items) (table_at c.variables.items)))
+      ≡ joined_all level (marks_with_levels (table_at c.variables.items) (drop (length old.log.items) c.log.items))
+      (redone (marks_with_levels (table_at b.variables.items) (drop (length old.log.items) b.log.items)) (undone_levels (drop (length b1.log.items) c.log.items) (table_at c.variables.items)))
 
-module _ (a b b1 c d : Held) (outer level inside m n : ℕ) (chosen other : CoreCommands) (s : IsSound a) (low : outer ≤ count a) (level_low : level ≤ count a) (x : Arms a outer chosen other level inside m n b b1 c d) where
-  in_low : inside ≤ count a
-  in_low = subst (λ (k : ℕ). k ≤ count a) (sym x.in_is) (inside_low level outer (count a) level_low low)
+module _ (a b b1 c d : Held) (outer level inside m n : ℕ) (chosen other : CoreCommands) (s : HasSoundLevels a) (low : outer ≤ held_access_count a) (level_low : level ≤ held_access_count a) (x : Arms a outer chosen other level inside m n b b1 c d) where
+  in_low : inside ≤ held_access_count a
+  in_low = subst (λ (k : ℕ). k ≤ held_access_count a) (sym x.in_is) (inside_low level outer (held_access_count a) level_low low)
 
   first_arm : GivesCommands a b inside chosen m
   first_arm = x.one s in_low
@@ -367,19 +367,19 @@ module _ (a b b1 c d : Held) (outer level inside m n : ℕ) (chosen other : Core
   first_since = since_seam a.log.items first_arm.changes b.log.items first_arm.log
 
   before : table_at b1.variables.items ≡ table_at a.variables.items
-  before = x.back_to ∙ (ap (λ l. undone l (table_at b.variables.items)) first_since ∙ first_arm.undoes)
+  before = x.back_to ∙ (ap (λ l. undone_levels l (table_at b.variables.items)) first_since ∙ first_arm.undoes)
 
-  many_first : count a ≤ count b
-  many_first = no_less (count a) (count b) m first_arm.counted
+  many_first : held_access_count a ≤ held_access_count b
+  many_first = no_less (held_access_count a) (held_access_count b) m first_arm.counted
 
-  back_sound : IsSound b1
-  back_sound = put_sound b b1 (table_at a.variables.items) x.back before (λ e. low_later (table_at a.variables.items e) (count a) (count b) (s.small.variables e) many_first) first_arm.sound
+  back_sound : HasSoundLevels b1
+  back_sound = put_sound b b1 (table_at a.variables.items) x.back before (λ e. low_later (table_at a.variables.items e) (held_access_count a) (held_access_count b) (s.small.variables e) many_first) first_arm.sound
 
-  same_back : count b1 ≡ count b
+  same_back : held_access_count b1 ≡ held_access_count b
   same_back = ap length x.back.reads
 
   second_arm : GivesCommands b1 c inside other n
-  second_arm = x.two back_sound (subst (λ (k : ℕ). inside ≤ k) (sym same_back) (low_later inside (count a) (count b) in_low many_first))
+  second_arm = x.two back_sound (subst (λ (k : ℕ). inside ≤ k) (sym same_back) (low_later inside (held_access_count a) (held_access_count b) in_low many_first))
 
   all_log : c.log.items ≡ a.log.items ++ (first_arm.changes ++ second_arm.changes)
   all_log = second_arm.log ∙ (ap (λ l. l ++ second_arm.changes) (x.back.log ∙ first_arm.log) ∙ append_assoc a.log.items first_arm.changes second_arm.changes)
@@ -387,19 +387,19 @@ module _ (a b b1 c d : Held) (outer level inside m n : ℕ) (chosen other : Core
   second_since : drop (length b1.log.items) c.log.items ≡ second_arm.changes
   second_since = since_seam b1.log.items second_arm.changes c.log.items second_arm.log
 
-  second_undone : undone second_arm.changes (table_at c.variables.items) ≡ table_at a.variables.items
+  second_undone : undone_levels second_arm.changes (table_at c.variables.items) ≡ table_at a.variables.items
   second_undone = second_arm.undoes ∙ before
 
-  again : redone (marks_now (table_at b.variables.items) (drop (length a.log.items) b.log.items)) (undone (drop (length b1.log.items) c.log.items) (table_at c.variables.items)) ≡ table_at b.variables.items
+  again : redone (marks_with_levels (table_at b.variables.items) (drop (length a.log.items) b.log.items)) (undone_levels (drop (length b1.log.items) c.log.items) (table_at c.variables.items)) ≡ table_at b.variables.items
   again =
-      ap (λ l. redone (marks_now (table_at b.variables.items) l) (undone (drop (length b1.log.items) c.log.items) (table_at c.variables.items))) first_since
-      ∙ (ap (λ l. redone (marks_now (table_at b.variables.items) first_arm.changes) (undone l (table_at c.variables.items))) second_since
-      ∙ (ap (redone (marks_now (table_at b.variables.items) first_arm.changes)) (second_undone ∙ sym first_arm.undoes) ∙ redone_all first_arm.changes (table_at b.variables.items)))
+      ap (λ l. redone (marks_with_levels (table_at b.variables.items) l) (undone_levels (drop (length b1.log.items) c.log.items) (table_at c.variables.items))) first_since
+      ∙ (ap (λ l. redone (marks_with_levels (table_at b.variables.items) first_arm.changes) (undone_levels l (table_at c.variables.items))) second_since
+      ∙ (ap (redone (marks_with_levels (table_at b.variables.items) first_arm.changes)) (second_undone ∙ sym first_arm.undoes) ∙ redone_all first_arm.changes (table_at b.variables.items)))
 
   behind_at : (e : ℕ) → table_at d.variables.items e ≡ (if has_mark e first_arm.changes || has_mark e second_arm.changes then max level (max (table_at b.variables.items e) (table_at c.variables.items e)) else table_at a.variables.items e)
   behind_at e =
       ap (λ f. f e)
-      (x.joined ∙ (ap (λ l. joined_all level (marks_now (table_at c.variables.items) l) (redone (marks_now (table_at b.variables.items) (drop (length a.log.items) b.log.items)) (undone (drop (length b1.log.items) c.log.items) (table_at c.variables.items)))) (since_seam a.log.items (first_arm.changes ++ second_arm.changes) c.log.items all_log) ∙ ap (joined_all level (marks_now (table_at c.variables.items) (first_arm.changes ++ second_arm.changes))) again))
+      (x.joined ∙ (ap (λ l. joined_all level (marks_with_levels (table_at c.variables.items) l) (redone (marks_with_levels (table_at b.variables.items) (drop (length a.log.items) b.log.items)) (undone_levels (drop (length b1.log.items) c.log.items) (table_at c.variables.items)))) (since_seam a.log.items (first_arm.changes ++ second_arm.changes) c.log.items all_log) ∙ ap (joined_all level (marks_with_levels (table_at c.variables.items) (first_arm.changes ++ second_arm.changes))) again))
       ∙ joined_both level first_arm.changes second_arm.changes (table_at a.variables.items) (table_at b.variables.items) (table_at c.variables.items) first_arm.undoes e
 
   arms_are : table_at d.variables.items ≡ arms_joined level chosen other (table_at a.variables.items) (table_at b.variables.items) (table_at c.variables.items)
@@ -421,39 +421,39 @@ module _ (a b b1 c d : Held) (outer level inside m n : ℕ) (chosen other : Core
       ∙ (ap (commands_leveled (told a.shares.now) (max outer level) other) (variables_put b b1 (table_at a.variables.items) x.back before)
       ∙ ap (λ (l : Levels). commands_leveled (told a.shares.now) (max outer level) other (with_variables l (table_at a.variables.items))) after_first)))
 
-  choice_seen : levels_seen d ≡ choice_of (told a.shares.now) outer chosen other (leveled level (levels_seen a))
+  choice_seen : levels_seen d ≡ choice_of (told a.shares.now) outer chosen other (leveled_with level (levels_seen a))
   choice_seen =
       variables_put c d _ x.last arms_are
       ∙ (ap (λ (l : Levels). with_variables (levels_seen c) (arms_joined level chosen other (table_at a.variables.items) l.variables (table_at c.variables.items))) after_first
       ∙ ap (λ (l : Levels). with_variables l (arms_joined level chosen other (table_at a.variables.items) (commands_leveled (told a.shares.now) (max outer level) chosen (levels_seen a)).variables l.variables)) after_second)
 
-  many_second : count a ≤ count c
-  many_second = low_later (count a) (count b) (count c) many_first (no_less (count b) (count c) n (second_arm.counted ∙ ap (λ k. k + n) same_back))
+  many_second : held_access_count a ≤ held_access_count c
+  many_second = low_later (held_access_count a) (held_access_count b) (held_access_count c) many_first (no_less (held_access_count b) (held_access_count c) n (second_arm.counted ∙ ap (λ k. k + n) same_back))
 
-  choice_sound : IsSound d
+  choice_sound : HasSoundLevels d
   choice_sound =
       put_sound c d _ x.last arms_are
-      (λ e. if_low (any_assigns e chosen || any_assigns e other) (max level (max (table_at b.variables.items e) (table_at c.variables.items e))) (table_at a.variables.items e) (count c)
-      (three_low level (table_at b.variables.items e) (table_at c.variables.items e) (count c) (low_later level (count a) (count c) level_low many_second)
-      (low_later (table_at b.variables.items e) (count b) (count c) (first_arm.sound.small.variables e) (no_less (count b) (count c) n (second_arm.counted ∙ ap (λ k. k + n) same_back))) (second_arm.sound.small.variables e))
-      (low_later (table_at a.variables.items e) (count a) (count c) (s.small.variables e) many_second)) second_arm.sound
+      (λ e. if_low (any_assigns e chosen || any_assigns e other) (max level (max (table_at b.variables.items e) (table_at c.variables.items e))) (table_at a.variables.items e) (held_access_count c)
+      (three_low level (table_at b.variables.items e) (table_at c.variables.items e) (held_access_count c) (low_later level (held_access_count a) (held_access_count c) level_low many_second)
+      (low_later (table_at b.variables.items e) (held_access_count b) (held_access_count c) (first_arm.sound.small.variables e) (no_less (held_access_count b) (held_access_count c) n (second_arm.counted ∙ ap (λ k. k + n) same_back))) (second_arm.sound.small.variables e))
+      (low_later (table_at a.variables.items e) (held_access_count a) (held_access_count c) (s.small.variables e) many_second)) second_arm.sound
 
   rest_same : (e : ℕ) → (has_mark e first_arm.changes || has_mark e second_arm.changes) ≡ false → table_at d.variables.items e ≡ table_at a.variables.items e
   rest_same e h = behind_at e ∙ ap (λ t. if t then max level (max (table_at b.variables.items e) (table_at c.variables.items e)) else table_at a.variables.items e) h
 
-pub gives_choice : (old a b b1 c d : Held) (outer level inside k m n : ℕ) (test : CoreTerm) (chosen other : CoreCommands) → outer ≤ count old → GivesLevel old a (term_leveled (told old.shares.now) outer test (levels_seen old)) level k
+pub gives_choice : (old a b b1 c d : Held) (outer level inside k m n : ℕ) (test : CoreTerm) (chosen other : CoreCommands) → outer ≤ held_access_count old → GivesLevel old a (term_leveled (told old.shares.now) outer test (levels_seen old)) level k
     → Arms a outer chosen other level inside m n b b1 c d → GivesCommands old d outer (command_and (choose test chosen other) no_commands) (k + (m + n))
 gives_choice old a b b1 c d outer level inside k m n test chosen other low t x =
-    let low_a = counts_on (count old) (count a) k outer t.counted low in
+    let low_a = counts_on (held_access_count old) (held_access_count a) k outer t.counted low in
     let g = first_arm a b b1 c d outer level inside m n chosen other t.sound low_a t.low x in
     let h = second_arm a b b1 c d outer level inside m n chosen other t.sound low_a t.low x in
     record {
       seen =
           choice_seen a b b1 c d outer level inside m n chosen other t.sound low_a t.low x
-          ∙ (ap (λ y. choice_of (told y) outer chosen other (leveled level (levels_seen a))) t.keeps.shares
-          ∙ (ap (λ y. choice_of (told old.shares.now) outer chosen other (leveled y (levels_seen a))) t.is ∙ ap (λ y. choice_of (told old.shares.now) outer chosen other (leveled (term_leveled (told old.shares.now) outer test (levels_seen old)).level y)) t.seen));
+          ∙ (ap (λ y. choice_of (told y) outer chosen other (leveled_with level (levels_seen a))) t.keeps.shares
+          ∙ (ap (λ y. choice_of (told old.shares.now) outer chosen other (leveled_with y (levels_seen a))) t.is ∙ ap (λ y. choice_of (told old.shares.now) outer chosen other (leveled_with (term_leveled (told old.shares.now) outer test (levels_seen old)).level y)) t.seen));
       sound = choice_sound a b b1 c d outer level inside m n chosen other t.sound low_a t.low x;
-      counted = ap length x.last.reads ∙ regroup (count old) (count a) (count b) (count c) k m n t.counted g.counted (h.counted ∙ ap (λ y. y + n) (ap length x.back.reads));
+      counted = ap length x.last.reads ∙ regroup (held_access_count old) (held_access_count a) (held_access_count b) (held_access_count c) k m n t.counted g.counted (h.counted ∙ ap (λ y. y + n) (ap length x.back.reads));
       shares = x.last.shares ∙ (h.shares ∙ (x.back.shares ∙ (g.shares ∙ t.keeps.shares)));
       first = x.last.first ∙ (h.first ∙ (x.back.first ∙ (g.first ∙ t.keeps.first)));
       changes = g.changes ++ h.changes;
@@ -468,12 +468,12 @@ pub inside_fits : (inside level outer n : ℕ) → inside ≡ max level outer �
 inside_fits inside level outer n is e f = subst (λ (k : ℕ). k ≤ n) (sym is) (inside_low level outer n e f)
 
 -- what the lists of the code are
-pub all_joined : (level : ℕ) (final back set fb fc : ℕ → ℕ) (others chosen arm both last : List Mark) → final ≡ joined_all level others set → others ≡ marks_now fc both → set ≡ redone chosen back → chosen ≡ marks_now fb arm → back ≡ undone last fc
-    → final ≡ joined_all level (marks_now fc both) (redone (marks_now fb arm) (undone last fc))
+pub all_joined : (level : ℕ) (final back set fb fc : ℕ → ℕ) (others chosen arm both last : List Mark) → final ≡ joined_all level others set → others ≡ marks_with_levels fc both → set ≡ redone chosen back → chosen ≡ marks_with_levels fb arm → back ≡ undone_levels last fc
+    → final ≡ joined_all level (marks_with_levels fc both) (redone (marks_with_levels fb arm) (undone_levels last fc))
 all_joined level final back set fb fc others chosen arm both last is others_are set_is chosen_are back_is =
     is
     ∙ (ap (λ l. joined_all level l set) others_are
-    ∙ ap (joined_all level (marks_now fc both)) (set_is ∙ (ap (λ l. redone l back) chosen_are ∙ ap (redone (marks_now fb arm)) back_is)))
+    ∙ ap (joined_all level (marks_with_levels fc both)) (set_is ∙ (ap (λ l. redone l back) chosen_are ∙ ap (redone (marks_with_levels fb arm)) back_is)))
 
 pub since_is : (xs ys now : List Mark) (mark n : ℕ) → now ≡ drop mark xs → xs ≡ ys → mark ≡ n → now ≡ drop n ys
 since_is xs ys now mark n is same at = is ∙ (ap (drop mark) same ∙ ap (λ k. drop k ys) at)

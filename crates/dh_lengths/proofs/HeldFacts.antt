@@ -11,8 +11,8 @@ use Rattle.dh_meaning.specs.Levels.{Levels, Leveled, level_ground, read_at, read
 use Rattle.dh_events.specs.Tables.{table_at, with_number}
 use Rattle.dh_lengths.specs.declared.held.Held.{Held}
 use Rattle.dh_lengths.specs.SharedReads.{told}
-use Rattle.dh_lengths.specs.Undone.{mark, undone}
-use Rattle.dh_lengths.specs.HeldLevels.{zeros, read_in, variable_in, levels_of, levels_seen, count, leveled, AreSmall, IsSound, KeepsVariables, GivesLevel, GivesLevels, AssignsAt, Skips}
+use Rattle.dh_lengths.specs.Undone.{mark, undone_levels}
+use Rattle.dh_lengths.specs.HeldLevels.{zero_levels, read_in, variable_in, levels_of, levels_seen, held_access_count, leveled_with, LevelsAreSmall, HasSoundLevels, KeepsVariableLevels, GivesLevel, GivesLevels, AssignsAt, Skips}
 use Rattle.dh_lengths.proofs.UndoneFacts.{one_changed}
 use Rattle.dh_lengths.proofs.Zeros.{read_more, zeros_long}
 
@@ -124,26 +124,26 @@ if_low : (b : Bool) (x y n : ℕ) → x ≤ n → y ≤ n → (if b then x else 
 if_low true x y n e f = e
 if_low false x y n e f = f
 
-pub small_more : (n k : ℕ) (l : Levels) → AreSmall n l → AreSmall (n + k) l
+pub small_more : (n k : ℕ) (l : Levels) → LevelsAreSmall n l → LevelsAreSmall (n + k) l
 small_more n k l s = record { variables = λ e. up_many (l.variables e) n k (s.variables e); reads = λ i. up_many (l.reads i) n k (s.reads i); most = up_many l.most n k s.most }
 
 -- Reads.
 
 abbrev read_more_of : (old : Held) → (level : ℕ) → Levels
-read_more_of old level = record { variables = (levels_seen old).variables; reads = with_value (levels_seen old).reads (count old) level; most = max (levels_seen old).most level }
+read_more_of old level = record { variables = (levels_seen old).variables; reads = with_value (levels_seen old).reads (held_access_count old) level; most = max (levels_seen old).most level }
 
-read_small : (old : Held) (level : ℕ) → IsSound old → level ≤ count old + 1 → AreSmall (count old + 1) (read_more_of old level)
+read_small : (old : Held) (level : ℕ) → HasSoundLevels old → level ≤ held_access_count old + 1 → LevelsAreSmall (held_access_count old + 1) (read_more_of old level)
 read_small old level s low = record {
-  variables = λ e. up_one (table_at old.variables.items e) (count old) (s.small.variables e);
-  reads = λ k. if_low (k == count old) level (read_in old.reads.items old.first k) (count old + 1) low (up_one (read_in old.reads.items old.first k) (count old) (s.small.reads k));
-  most = both_low old.most level (count old + 1) (up_one old.most (count old) s.small.most) low;
+  variables = λ e. up_one (table_at old.variables.items e) (held_access_count old) (s.small.variables e);
+  reads = λ k. if_low (k == held_access_count old) level (read_in old.reads.items old.first k) (held_access_count old + 1) low (up_one (read_in old.reads.items old.first k) (held_access_count old) (s.small.reads k));
+  most = both_low old.most level (held_access_count old + 1) (up_one old.most (held_access_count old) s.small.most) low;
 }
 
 -- a read of a level
-read_gives : (old new : Held) (r : Reach) (level : ℕ) → r.number ≡ count old → IsSound old → level ≤ count old + 1 → new.reads.items ≡ old.reads.items ++ level ∷ [] → new.most ≡ max old.most level → KeepsVariables old new
+read_gives : (old new : Held) (r : Reach) (level : ℕ) → r.number ≡ held_access_count old → HasSoundLevels old → level ≤ held_access_count old + 1 → new.reads.items ≡ old.reads.items ++ level ∷ [] → new.most ≡ max old.most level → KeepsVariableLevels old new
     → GivesLevel old new (read_at r level (levels_seen old)) level 1
 read_gives old new r level numbers s low added most keeps =
-    let many : count new ≡ count old + 1 = ap length added ∙ one_longer old.reads.items level in
+    let many : held_access_count new ≡ held_access_count old + 1 = ap length added ∙ one_longer old.reads.items level in
     let seen : levels_seen new ≡ read_more_of old level =
     ap (λ l. levels_of l new.first new.most new.variables.items) added
     ∙ (ap (λ n. levels_of (old.reads.items ++ level ∷ []) n new.most new.variables.items) keeps.first
@@ -154,8 +154,8 @@ read_gives old new r level numbers s low added most keeps =
       is = refl;
       seen = seen ∙ ap (λ (n : ℕ). record { variables = (levels_seen old).variables; reads = with_value (levels_seen old).reads n level; most = max (levels_seen old).most level }) (sym numbers);
       sound = record {
-        first = subst (λ (n : ℕ). new.first ≤ n) (sym many) (subst (λ (n : ℕ). n ≤ count old + 1) (sym keeps.first) (up_one old.first (count old) s.first));
-        small = subst (λ (n : ℕ). AreSmall n (levels_seen new)) (sym many) (subst (λ (l : Levels). AreSmall (count old + 1) l) (sym seen) (read_small old level s low));
+        first = subst (λ (n : ℕ). new.first ≤ n) (sym many) (subst (λ (n : ℕ). n ≤ held_access_count old + 1) (sym keeps.first) (up_one old.first (held_access_count old) s.first));
+        small = subst (λ (n : ℕ). LevelsAreSmall n (levels_seen new)) (sym many) (subst (λ (l : Levels). LevelsAreSmall (held_access_count old + 1) l) (sym seen) (read_small old level s low));
       };
       low = subst (λ (n : ℕ). level ≤ n) (sym many) low;
       counted = many;
@@ -167,45 +167,45 @@ abbrev next_level : (old : Held) → (outer indices : ℕ) → Option ℕ → �
 next_level old outer indices None = suc (max indices outer)
 next_level old outer indices (Some earlier) = read_in old.reads.items old.first earlier
 
-pub read_next : (old new : Held) (outer indices level : ℕ) (o : Option ℕ) → told old.shares.now (count old) ≡ o → (outer ≤ count old → indices ≤ count old → level ≡ next_level old outer indices o)
-    → new.reads.items ≡ old.reads.items ++ level ∷ [] → new.most ≡ max old.most level → KeepsVariables old new
-    → (r : Reach) → r.number ≡ count old → IsSound old → outer ≤ count old → indices ≤ count old → GivesLevel old new (read_leveled (told old.shares.now) outer r (leveled indices (levels_seen old))) level 1
+pub read_next : (old new : Held) (outer indices level : ℕ) (o : Option ℕ) → told old.shares.now (held_access_count old) ≡ o → (outer ≤ held_access_count old → indices ≤ held_access_count old → level ≡ next_level old outer indices o)
+    → new.reads.items ≡ old.reads.items ++ level ∷ [] → new.most ≡ max old.most level → KeepsVariableLevels old new
+    → (r : Reach) → r.number ≡ held_access_count old → HasSoundLevels old → outer ≤ held_access_count old → indices ≤ held_access_count old → GivesLevel old new (read_leveled (told old.shares.now) outer r (leveled_with indices (levels_seen old))) level 1
 read_next old new outer indices level o share is added most keeps r numbers s outer_low indices_low =
     subst (λ (i : Leveled). GivesLevel old new i level 1) (sym (as_read o (ap (told old.shares.now) numbers ∙ share))) (by_share o (is outer_low indices_low))
   where
-    as_read : (o : Option ℕ) → told old.shares.now r.number ≡ o → read_leveled (told old.shares.now) outer r (leveled indices (levels_seen old)) ≡ read_leveled (λ n. o) outer r (leveled indices (levels_seen old))
-    as_read o e = ap (λ (q : Option ℕ). read_leveled (λ n. q) outer r (leveled indices (levels_seen old))) e
+    as_read : (o : Option ℕ) → told old.shares.now r.number ≡ o → read_leveled (told old.shares.now) outer r (leveled_with indices (levels_seen old)) ≡ read_leveled (λ n. o) outer r (leveled_with indices (levels_seen old))
+    as_read o e = ap (λ (q : Option ℕ). read_leveled (λ n. q) outer r (leveled_with indices (levels_seen old))) e
 
     next_low : (a b n : ℕ) → a ≤ n → b ≤ n → suc (max a b) ≤ n + 1
     next_low a b n e f = grind (arith, e, f)
 
-    by_share : (o : Option ℕ) → level ≡ next_level old outer indices o → GivesLevel old new (read_leveled (λ n. o) outer r (leveled indices (levels_seen old))) level 1
+    by_share : (o : Option ℕ) → level ≡ next_level old outer indices o → GivesLevel old new (read_leveled (λ n. o) outer r (leveled_with indices (levels_seen old))) level 1
     by_share None e =
         subst (λ (m : ℕ). GivesLevel old new (read_at r m (levels_seen old)) level 1) e
-        (read_gives old new r level numbers s (subst (λ (m : ℕ). m ≤ count old + 1) (sym e) (next_low indices outer (count old) indices_low outer_low)) added most keeps)
+        (read_gives old new r level numbers s (subst (λ (m : ℕ). m ≤ held_access_count old + 1) (sym e) (next_low indices outer (held_access_count old) indices_low outer_low)) added most keeps)
     by_share (Some earlier) e =
         subst (λ (m : ℕ). GivesLevel old new (read_at r m (levels_seen old)) level 1) e
-        (read_gives old new r level numbers s (subst (λ (m : ℕ). m ≤ count old + 1) (sym e) (up_one _ (count old) (s.small.reads earlier))) added most keeps)
+        (read_gives old new r level numbers s (subst (λ (m : ℕ). m ≤ held_access_count old + 1) (sym e) (up_one _ (held_access_count old) (s.small.reads earlier))) added most keeps)
 
 pub within_count : (a b n : ℕ) → a ≤ n → b ≤ n → min (max b a) n + 1 ≡ suc (max b a)
 within_count a b n e f = grind (arith, e, f)
 
 -- Accesses of level 0.
 
-pub skips_gives : (old new : Held) (n : ℕ) → IsSound old → Skips old new n → GivesLevels old new (levels_seen old) n
+pub skips_gives : (old new : Held) (n : ℕ) → HasSoundLevels old → Skips old new n → GivesLevels old new (levels_seen old) n
 skips_gives old new n s k =
-    let many : count new ≡ count old + n = ap length k.reads ∙ zeros_long old.reads.items n in
+    let many : held_access_count new ≡ held_access_count old + n = ap length k.reads ∙ zeros_long old.reads.items n in
     let seen : levels_seen new ≡ levels_seen old =
     ap (λ l. levels_of l new.first new.most new.variables.items) k.reads
-    ∙ (ap (λ m. levels_of (old.reads.items ++ zeros n) m new.most new.variables.items) k.keeps.first
-    ∙ (ap (λ m. levels_of (old.reads.items ++ zeros n) old.first m new.variables.items) k.most
-    ∙ (ap (λ l. levels_of (old.reads.items ++ zeros n) old.first old.most l) k.keeps.variables
+    ∙ (ap (λ m. levels_of (old.reads.items ++ zero_levels n) m new.most new.variables.items) k.keeps.first
+    ∙ (ap (λ m. levels_of (old.reads.items ++ zero_levels n) old.first m new.variables.items) k.most
+    ∙ (ap (λ l. levels_of (old.reads.items ++ zero_levels n) old.first old.most l) k.keeps.variables
     ∙ ap (λ (f : ℕ → ℕ). record { variables = table_at old.variables.items; reads = f; most = old.most }) (read_more old.reads.items n old.first)))) in
     record {
       seen = seen;
       sound = record {
-        first = subst (λ (m : ℕ). new.first ≤ m) (sym many) (subst (λ (m : ℕ). m ≤ count old + n) (sym k.keeps.first) (up_many old.first (count old) n s.first));
-        small = subst (λ (m : ℕ). AreSmall m (levels_seen new)) (sym many) (subst (λ (l : Levels). AreSmall (count old + n) l) (sym seen) (small_more (count old) n (levels_seen old) s.small));
+        first = subst (λ (m : ℕ). new.first ≤ m) (sym many) (subst (λ (m : ℕ). m ≤ held_access_count old + n) (sym k.keeps.first) (up_many old.first (held_access_count old) n s.first));
+        small = subst (λ (m : ℕ). LevelsAreSmall m (levels_seen new)) (sym many) (subst (λ (l : Levels). LevelsAreSmall (held_access_count old + n) l) (sym seen) (small_more (held_access_count old) n (levels_seen old) s.small));
       };
       counted = many;
       keeps = k.keeps;

@@ -13,9 +13,9 @@ use Rattle.dh_ports.specs.Scanned.{read_key}
 use Rattle.dh_lengths.specs.declared.live.Live.{Live}
 use Rattle.dh_lengths.specs.declared.sharing.Met.{Met}
 use Rattle.dh_lengths.specs.declared.sharing.Met.TheVariants as met
-use Rattle.dh_lengths.specs.LiveFirsts.{FirstRead, first_at, none_read, opened, closed, shares_of}
+use Rattle.dh_lengths.specs.LiveFirsts.{FirstRead, first_read_at, none_read, opened, arm_closed, shares_of}
 use Rattle.dh_lengths.specs.LiveFirsts as lives
-use Rattle.dh_lengths.specs.SharedReads.{IsKeyMet, IsMet, AreMet, IsWithin, AreWithin}
+use Rattle.dh_lengths.specs.SharedReads.{IsKeyMet, IsMet, AreMet, IsWithinClasses, AreWithinClasses}
 
 absurd : {A : Type 0} → ⊥ → A
 absurd e = elim e [ ]
@@ -54,27 +54,27 @@ met_turn old new e es i x ms ms1 m within is so now more =
     (one_more new (take i es) ms x m (all_later old new (take i es) ms e so) now))
 
 -- what is met is of classes that are there
-key_within : (known : List Key) (o : Option Key) (m : Met) → IsKeyMet known o m → IsWithin (length known) m
-key_within known None m h = subst (λ (n : Met). IsWithin (length known) n) (sym h) tt
-key_within known (Some k) m (class, (there, is)) = subst (λ (n : Met). IsWithin (length known) n) (sym is) (slice_get_within known class k there)
+key_within : (known : List Key) (o : Option Key) (m : Met) → IsKeyMet known o m → IsWithinClasses (length known) m
+key_within known None m h = subst (λ (n : Met). IsWithinClasses (length known) n) (sym h) tt
+key_within known (Some k) m (class, (there, is)) = subst (λ (n : Met). IsWithinClasses (length known) n) (sym is) (slice_get_within known class k there)
 
-met_within : (known : List Key) (x : Event) (m : Met) → IsMet known x m → IsWithin (length known) m
+met_within : (known : List Key) (x : Event) (m : Met) → IsMet known x m → IsWithinClasses (length known) m
 met_within known (event.Touch writes phase round access element newest) m h = key_within known (read_key (event.Touch writes phase round access element newest)) m h
-met_within known (event.Assigned entity) m h = subst (λ (n : Met). IsWithin (length known) n) (sym h) tt
-met_within known event.ArmBegins m h = subst (λ (n : Met). IsWithin (length known) n) (sym h) tt
-met_within known event.ArmEnds m h = subst (λ (n : Met). IsWithin (length known) n) (sym h) tt
-met_within known event.Begins m h = subst (λ (n : Met). IsWithin (length known) n) (sym h) tt
-met_within known event.Next m h = subst (λ (n : Met). IsWithin (length known) n) (sym h) tt
-met_within known event.Ends m h = subst (λ (n : Met). IsWithin (length known) n) (sym h) tt
+met_within known (event.Assigned entity) m h = subst (λ (n : Met). IsWithinClasses (length known) n) (sym h) tt
+met_within known event.ArmBegins m h = subst (λ (n : Met). IsWithinClasses (length known) n) (sym h) tt
+met_within known event.ArmEnds m h = subst (λ (n : Met). IsWithinClasses (length known) n) (sym h) tt
+met_within known event.Begins m h = subst (λ (n : Met). IsWithinClasses (length known) n) (sym h) tt
+met_within known event.Next m h = subst (λ (n : Met). IsWithinClasses (length known) n) (sym h) tt
+met_within known event.Ends m h = subst (λ (n : Met). IsWithinClasses (length known) n) (sym h) tt
 
-pub all_within : (known : List Key) (es : List Event) (ms : List Met) → AreMet known es ms → AreWithin (length known) ms
+pub all_within : (known : List Key) (es : List Event) (ms : List Met) → AreMet known es ms → AreWithinClasses (length known) ms
 all_within known [] [] h = tt
 all_within known [] (m ∷ ms) h = absurd h
 all_within known (x ∷ es) [] h = absurd h
 all_within known (x ∷ es) (m ∷ ms) h = (met_within known x m h.0, all_within known es ms h.1)
 
 -- one of them
-pub within_at : (classes : ℕ) (ms : List Met) (i : ℕ) (d : Met) → i < length ms → AreWithin classes ms → IsWithin classes (get_or ms i d)
+pub within_at : (classes : ℕ) (ms : List Met) (i : ℕ) (d : Met) → i < length ms → AreWithinClasses classes ms → IsWithinClasses classes (get_or ms i d)
 within_at classes [] i d h w = absurd (never i h)
   where
     never : (n : ℕ) → n < 0 → ⊥
@@ -85,14 +85,14 @@ within_at classes (x ∷ ms) (suc i) d h w = within_at classes ms i d (less i (l
     less : (m n : ℕ) → suc m < suc n → m < n
     less m n e = omega (arith, e)
 
-pub read_within : (classes class : ℕ) (m : Met) → m ≡ met.Read class → IsWithin classes m → class < classes
-read_within classes class m is w = subst (λ (n : Met). IsWithin classes n) is w
+pub read_within : (classes class : ℕ) (m : Met) → m ≡ met.Read class → IsWithinClasses classes m → class < classes
+read_within classes class m is w = subst (λ (n : Met). IsWithinClasses classes n) is w
 
 -- The walk: what is found so far, with what the rest comes to, is what all comes to.
 
-module _ (steps : List Met) (i : ℕ) (d : Met) (within : i < length steps) (shares all : List (Option ℕ)) (old : Live) (so : shares ++ shares_of (first_at old) (length shares) (drop i steps) ≡ all) where
-  here : (n : Met) → get_or steps i d ≡ n → shares ++ shares_of (first_at old) (length shares) (n ∷ drop (i + 1) steps) ≡ all
-  here n is = sym (ap (λ l. shares ++ shares_of (first_at old) (length shares) l) (at_place steps i d within ∙ ap (λ x. x ∷ drop (i + 1) steps) is)) ∙ so
+module _ (steps : List Met) (i : ℕ) (d : Met) (within : i < length steps) (shares all : List (Option ℕ)) (old : Live) (so : shares ++ shares_of (first_read_at old) (length shares) (drop i steps) ≡ all) where
+  here : (n : Met) → get_or steps i d ≡ n → shares ++ shares_of (first_read_at old) (length shares) (n ∷ drop (i + 1) steps) ≡ all
+  here n is = sym (ap (λ l. shares ++ shares_of (first_read_at old) (length shares) l) (at_place steps i d within ∙ ap (λ x. x ∷ drop (i + 1) steps) is)) ∙ so
 
   longer : (o : Option ℕ) → length (shares ++ o ∷ []) ≡ length shares + 1
   longer o = by shares
@@ -110,26 +110,26 @@ module _ (steps : List Met) (i : ℕ) (d : Met) (within : i < length steps) (sha
       ap (λ l. l ++ shares_of firsts (length l) (drop (i + 1) steps)) is
       ∙ (ap (λ n. (shares ++ o ∷ []) ++ shares_of firsts n (drop (i + 1) steps)) (longer o) ∙ (append_assoc shares (o ∷ []) (shares_of firsts (length shares + 1) (drop (i + 1) steps)) ∙ e))
 
-  pub read_turn : (class : ℕ) (new : Live) (o : Option ℕ) (more : List (Option ℕ)) → get_or steps i d ≡ met.Read class → o ≡ (first_at old class).now → ((other : ℕ) → first_at new other ≡ lives.met_read class (length shares) other (first_at old other))
-      → more ≡ shares ++ o ∷ [] → more ++ shares_of (first_at new) (length more) (drop (i + 1) steps) ≡ all
+  pub read_turn : (class : ℕ) (new : Live) (o : Option ℕ) (more : List (Option ℕ)) → get_or steps i d ≡ met.Read class → o ≡ (first_read_at old class).now → ((other : ℕ) → first_read_at new other ≡ lives.met_read class (length shares) other (first_read_at old other))
+      → more ≡ shares ++ o ∷ [] → more ++ shares_of (first_read_at new) (length more) (drop (i + 1) steps) ≡ all
   read_turn class new o more is share met_so added =
-      found_one o more (first_at new) added
+      found_one o more (first_read_at new) added
       (ap (λ (f : ℕ → FirstRead). shares ++ (o ∷ shares_of f (length shares + 1) (drop (i + 1) steps))) (fun_ext met_so)
-      ∙ (ap (λ x. shares ++ (x ∷ shares_of (λ other. lives.met_read class (length shares) other (first_at old other)) (length shares + 1) (drop (i + 1) steps))) share ∙ here (met.Read class) is))
+      ∙ (ap (λ x. shares ++ (x ∷ shares_of (λ other. lives.met_read class (length shares) other (first_read_at old other)) (length shares + 1) (drop (i + 1) steps))) share ∙ here (met.Read class) is))
 
-  pub alone_turn : (more : List (Option ℕ)) → get_or steps i d ≡ met.Alone → more ≡ shares ++ None ∷ [] → more ++ shares_of (first_at old) (length more) (drop (i + 1) steps) ≡ all
-  alone_turn more is added = found_one None more (first_at old) added (here met.Alone is)
+  pub alone_turn : (more : List (Option ℕ)) → get_or steps i d ≡ met.Alone → more ≡ shares ++ None ∷ [] → more ++ shares_of (first_read_at old) (length more) (drop (i + 1) steps) ≡ all
+  alone_turn more is added = found_one None more (first_read_at old) added (here met.Alone is)
 
-  pub begin_turn : (new : Live) → get_or steps i d ≡ met.Begins → ((class : ℕ) → first_at new class ≡ opened (first_at old class)) → shares ++ shares_of (first_at new) (length shares) (drop (i + 1) steps) ≡ all
+  pub begin_turn : (new : Live) → get_or steps i d ≡ met.Begins → ((class : ℕ) → first_read_at new class ≡ opened (first_read_at old class)) → shares ++ shares_of (first_read_at new) (length shares) (drop (i + 1) steps) ≡ all
   begin_turn new is opens = ap (λ (f : ℕ → FirstRead). shares ++ shares_of f (length shares) (drop (i + 1) steps)) (fun_ext opens) ∙ here met.Begins is
 
-  pub end_turn : (new : Live) → get_or steps i d ≡ met.Ends → ((class : ℕ) → first_at new class ≡ closed (first_at old class)) → shares ++ shares_of (first_at new) (length shares) (drop (i + 1) steps) ≡ all
+  pub end_turn : (new : Live) → get_or steps i d ≡ met.Ends → ((class : ℕ) → first_read_at new class ≡ arm_closed (first_read_at old class)) → shares ++ shares_of (first_read_at new) (length shares) (drop (i + 1) steps) ≡ all
   end_turn new is closes = ap (λ (f : ℕ → FirstRead). shares ++ shares_of f (length shares) (drop (i + 1) steps)) (fun_ext closes) ∙ here met.Ends is
 
-  pub other_turn : get_or steps i d ≡ met.Other → shares ++ shares_of (first_at old) (length shares) (drop (i + 1) steps) ≡ all
+  pub other_turn : get_or steps i d ≡ met.Other → shares ++ shares_of (first_read_at old) (length shares) (drop (i + 1) steps) ≡ all
   other_turn is = here met.Other is
 
 -- where it begins and ends
-pub begins_walk : (live : Live) (steps : List Met) (shares : List (Option ℕ)) → shares ≡ [] → ((class : ℕ) → first_at live class ≡ none_read class) → shares ++ shares_of (first_at live) (length shares) steps ≡ shares_of none_read 0 steps
+pub begins_walk : (live : Live) (steps : List Met) (shares : List (Option ℕ)) → shares ≡ [] → ((class : ℕ) → first_read_at live class ≡ none_read class) → shares ++ shares_of (first_read_at live) (length shares) steps ≡ shares_of none_read 0 steps
 begins_walk live steps shares empty none =
-    ap (λ l. l ++ shares_of (first_at live) (length l) steps) empty ∙ ap (λ (f : ℕ → FirstRead). shares_of f 0 steps) (fun_ext none)
+    ap (λ l. l ++ shares_of (first_read_at live) (length l) steps) empty ∙ ap (λ (f : ℕ → FirstRead). shares_of f 0 steps) (fun_ext none)

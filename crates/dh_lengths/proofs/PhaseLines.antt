@@ -11,8 +11,8 @@ use Rattle.dh_meaning.specs.Effects.{Block}
 use Rattle.dh_meaning.specs.Levels.{block_length}
 use Rattle.dh_meaning.specs.Phases.{Located, Phase, straight, turns, repeated, decided, Phases, no_phases, phase, of_list, one_straight, joined, folded, are_straight}
 use Rattle.dh_ports.proofs.PhaseShapes.{FullStraight, IsFull}
-use Rattle.dh_lengths.specs.PhaseBlocks.{blocks_of, blocks_in}
-use Rattle.dh_lengths.specs.PhaseWalks.{lengths_in, front, last_open, joins, put, goes_on}
+use Rattle.dh_lengths.specs.PhaseBlocks.{phase_blocks, blocks_in}
+use Rattle.dh_lengths.specs.PhaseWalks.{lengths_in, front, last_open, joins, put_phases, last_phase_goes_on}
 
 absurd : {A : Type 0} → ⊥ → A
 absurd e = elim e [ ]
@@ -22,7 +22,7 @@ absurd e = elim e [ ]
 blocks_both : (known : Known) (ps qs : List Phase) → blocks_in (core_phases known (of_list (ps ++ qs))) ≡ blocks_in (core_phases known (of_list ps)) ++ blocks_in (core_phases known (of_list qs))
 blocks_both known [] qs = refl
 blocks_both known (p ∷ ps) qs =
-    ap (λ l. blocks_of (core_phase known p) ++ l) (blocks_both known ps qs) ∙ sym (append_assoc (blocks_of (core_phase known p)) (blocks_in (core_phases known (of_list ps))) (blocks_in (core_phases known (of_list qs))))
+    ap (λ l. phase_blocks (core_phase known p) ++ l) (blocks_both known ps qs) ∙ sym (append_assoc (phase_blocks (core_phase known p)) (blocks_in (core_phases known (of_list ps))) (blocks_in (core_phases known (of_list qs))))
 
 pub lengths_both : (shared : ℕ → Option ℕ) (known : Known) (ps qs : List Phase) → lengths_in shared known (ps ++ qs) ≡ lengths_in shared known ps ++ lengths_in shared known qs
 lengths_both shared known ps qs = ap (map (block_length shared)) (blocks_both known ps qs) ∙ map-append (block_length shared) (blocks_in (core_phases known (of_list ps))) (blocks_in (core_phases known (of_list qs)))
@@ -64,20 +64,20 @@ last_other (x ∷ y ∷ line) p h = last_other (y ∷ line) p h
 
 -- Phases put behind a line.
 
-pub put_other : (going : Bool) (line : List Phase) (p : Phase) → IsOther p → line ++ p ∷ [] ≡ put going line (p ∷ [])
+pub put_other : (going : Bool) (line : List Phase) (p : Phase) → IsOther p → line ++ p ∷ [] ≡ put_phases going line (p ∷ [])
 put_other going line (straight cs) h = absurd h
 put_other going line (turns loop count body) h = refl
 put_other going line (repeated loop body) h = refl
 put_other going line (decided choice chosen other) h = refl
 
-pub goes_other : (going : Bool) (p : Phase) → IsOther p → goes_on going (p ∷ []) ≡ false
+pub goes_other : (going : Bool) (p : Phase) → IsOther p → last_phase_goes_on going (p ∷ []) ≡ false
 goes_other going (straight cs) h = absurd h
 goes_other going (turns loop count body) h = refl
 goes_other going (repeated loop body) h = refl
 goes_other going (decided choice chosen other) h = refl
 
 -- more than one straight phase
-pub put_more : (going : Bool) (line ps : List Phase) → are_straight ps ≡ false → line ++ ps ≡ put going line ps
+pub put_more : (going : Bool) (line ps : List Phase) → are_straight ps ≡ false → line ++ ps ≡ put_phases going line ps
 put_more going line [] h = cc
 put_more going line (straight cs ∷ []) h = cc
 put_more going line (turns loop count body ∷ []) h = refl
@@ -85,7 +85,7 @@ put_more going line (repeated loop body ∷ []) h = refl
 put_more going line (decided choice chosen other ∷ []) h = refl
 put_more going line (p ∷ q ∷ ps) h = refl
 
-pub goes_more : (going : Bool) (ps : List Phase) → are_straight ps ≡ false → false ≡ goes_on going ps
+pub goes_more : (going : Bool) (ps : List Phase) → are_straight ps ≡ false → false ≡ last_phase_goes_on going ps
 goes_more going [] h = cc
 goes_more going (straight cs ∷ []) h = cc
 goes_more going (turns loop count body ∷ []) h = refl
@@ -94,7 +94,7 @@ goes_more going (decided choice chosen other ∷ []) h = refl
 goes_more going (p ∷ q ∷ ps) h = refl
 
 -- behind nothing, where no phase goes on
-pub put_first : (ps : List Phase) → put false [] ps ≡ ps
+pub put_first : (ps : List Phase) → put_phases false [] ps ≡ ps
 put_first [] = refl
 put_first (straight cs ∷ []) = refl
 put_first (turns loop count body ∷ []) = refl
@@ -110,7 +110,7 @@ one_of (c ∷ cs) ds h = refl
 rest_same : (a b : Phase) (xs ys : List Phase) → a ∷ xs ≡ b ∷ ys → xs ≡ ys
 rest_same a b xs ys h = cc
 
-put_later : (x y : Phase) (line fold : List Phase) → put true (x ∷ y ∷ line) fold ≡ x ∷ put true (y ∷ line) fold
+put_later : (x y : Phase) (line fold : List Phase) → put_phases true (x ∷ y ∷ line) fold ≡ x ∷ put_phases true (y ∷ line) fold
 put_later x y line [] = refl
 put_later x y line (straight ds ∷ []) = refl
 put_later x y line (turns loop count body ∷ []) = refl
@@ -119,7 +119,7 @@ put_later x y line (decided choice chosen other ∷ []) = refl
 put_later x y line (p ∷ q ∷ ps) = refl
 
 -- the block that joins the copies of a loop, behind its body
-pub put_folded : (line fold : List Phase) → line ≡ front line ++ one_straight (last_open line) → IsFull fold → put true line fold ≡ folded line fold
+pub put_folded : (line fold : List Phase) → line ≡ front line ++ one_straight (last_open line) → IsFull fold → put_phases true line fold ≡ folded line fold
 put_folded [] [] e f = refl
 put_folded [] (straight ds ∷ []) e f = one_of [] ds f
 put_folded [] (turns loop count body ∷ []) e f = refl
@@ -157,7 +157,7 @@ put_folded (x ∷ y ∷ line) fold e f = put_later x y line fold ∙ ap (λ l. x
 
 abbrev pub puts : (going : Bool) → (line : List Phase) → List (List Phase) → List Phase
 puts going line [] = line
-puts going line (ps ∷ pss) = puts (goes_on going ps) (put going line ps) pss
+puts going line (ps ∷ pss) = puts (last_phase_goes_on going ps) (put_phases going line ps) pss
 
 abbrev pub AllFull : List (List Phase) → Type 0
 AllFull [] = Unit {0}

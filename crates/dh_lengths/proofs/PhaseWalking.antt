@@ -31,11 +31,11 @@ use Rattle.dh_lengths.specs.LedBy.{IsLedBy}
 use Rattle.dh_lengths.specs.declared.held.Held.{Held}
 use Rattle.dh_lengths.specs.declared.lengths.Walk.{Walk}
 use Rattle.dh_lengths.specs.SharedReads.{told, TellsShares}
-use Rattle.dh_lengths.specs.Undone.{undone}
-use Rattle.dh_lengths.specs.PhaseBlocks.{blocks_in, blocks_of, lengths_of}
-use Rattle.dh_lengths.specs.HeldLevels.{read_in, levels_of, levels_seen, count, AreSmall, EndsPhase, IsSound, GivesLevel, GivesLevels, LevelsTerm, Skips}
+use Rattle.dh_lengths.specs.Undone.{undone_levels}
+use Rattle.dh_lengths.specs.PhaseBlocks.{blocks_in, phase_blocks, lengths_of}
+use Rattle.dh_lengths.specs.HeldLevels.{read_in, levels_of, levels_seen, held_access_count, LevelsAreSmall, EndsPhase, HasSoundLevels, GivesLevel, GivesLevels, LevelsTerm, Skips}
 use Rattle.dh_lengths.specs.LeveledCommands.{GivesCommands, LevelsCommand}
-use Rattle.dh_lengths.specs.PhaseWalks.{lengths_in, front, last_open, is_some_command, joins, put, goes_on, TellsStages, TellInside, TellOther, TellGroups, TellPart, Stands, Tells, IsClosed, Closes, OpensBy, IsTested, WalksTest, IsWalked, WalksStraight, WalksCommand, WalksOther}
+use Rattle.dh_lengths.specs.PhaseWalks.{lengths_in, front, last_open, is_some_command, joins, put_phases, last_phase_goes_on, TellsStages, TellInside, TellOther, TellGroups, TellPart, WalkStandsBehind, TellsPhaseLength, IsClosed, Closes, OpensBy, TestIsTold, WalksTest, PhasesAreWalked, WalksStraight, WalksCommand, WalksOther}
 use Rattle.dh_lengths.proofs.HeldFacts.{read_end, skips_gives}
 use Rattle.dh_lengths.proofs.PhaseLines.{lengths_both, IsOther, front_straight, last_straight, front_other, last_other, put_other, goes_other, put_more, goes_more, put_first, put_folded, puts, AllFull, puts_joined}
 use Rattle.dh_lengths.proofs.StraightCores.{both_leveled, straight_core}
@@ -52,28 +52,28 @@ least_one most n e = grind (arith, e)
 
 -- The phase that is held is over.
 
-ground_seen : (old new : Held) → EndsPhase old new → undone old.log.items (table_at old.variables.items) ≡ (λ e. 0) → levels_seen new ≡ level_ground
+ground_seen : (old new : Held) → EndsPhase old new → undone_levels old.log.items (table_at old.variables.items) ≡ (λ e. 0) → levels_seen new ≡ level_ground
 ground_seen old new ends fresh =
     ap (λ l. levels_of l new.first new.most new.variables.items) ends.reads
     ∙ (ap (λ n. levels_of old.reads.items n new.most new.variables.items) ends.first
-    ∙ (ap (λ n. levels_of old.reads.items (count old) n new.variables.items) ends.most
-    ∙ (ap (λ (f : ℕ → ℕ). record { variables = f; reads = read_in old.reads.items (count old); most = 0 }) (ends.variables ∙ fresh)
+    ∙ (ap (λ n. levels_of old.reads.items (held_access_count old) n new.variables.items) ends.most
+    ∙ (ap (λ (f : ℕ → ℕ). record { variables = f; reads = read_in old.reads.items (held_access_count old); most = 0 }) (ends.variables ∙ fresh)
     ∙ ap (λ (f : ℕ → ℕ). record { variables = λ e. 0; reads = f; most = 0 }) (read_end old.reads.items))))
 
-ground_fresh : (old new : Held) → EndsPhase old new → undone old.log.items (table_at old.variables.items) ≡ (λ e. 0) → undone new.log.items (table_at new.variables.items) ≡ (λ e. 0)
-ground_fresh old new ends fresh = ap (λ l. undone l (table_at new.variables.items)) ends.log ∙ (ends.variables ∙ fresh)
+ground_fresh : (old new : Held) → EndsPhase old new → undone_levels old.log.items (table_at old.variables.items) ≡ (λ e. 0) → undone_levels new.log.items (table_at new.variables.items) ≡ (λ e. 0)
+ground_fresh old new ends fresh = ap (λ l. undone_levels l (table_at new.variables.items)) ends.log ∙ (ends.variables ∙ fresh)
 
-ground_sound : (old new : Held) → EndsPhase old new → undone old.log.items (table_at old.variables.items) ≡ (λ e. 0) → IsSound new
+ground_sound : (old new : Held) → EndsPhase old new → undone_levels old.log.items (table_at old.variables.items) ≡ (λ e. 0) → HasSoundLevels new
 ground_sound old new ends fresh = record {
-  first = subst (λ (n : ℕ). n ≤ count new) (sym ends.first) (subst (λ (n : ℕ). count old ≤ n) (sym (ap length ends.reads)) (same (count old)));
-  small = subst (λ (l : Levels). AreSmall (count new) l) (sym (ground_seen old new ends fresh)) (record { variables = λ e. none_low (count new); reads = λ k. none_low (count new); most = none_low (count new) });
+  first = subst (λ (n : ℕ). n ≤ held_access_count new) (sym ends.first) (subst (λ (n : ℕ). held_access_count old ≤ n) (sym (ap length ends.reads)) (same (held_access_count old)));
+  small = subst (λ (l : Levels). LevelsAreSmall (held_access_count new) l) (sym (ground_seen old new ends fresh)) (record { variables = λ e. none_low (held_access_count new); reads = λ k. none_low (held_access_count new); most = none_low (held_access_count new) });
 }
   where
     same : (n : ℕ) → n ≤ n
     same n = omega arith
 
 -- where nothing is open
-stands_fresh : (known : Known) (base : List ℕ) (w : Walk) → w.lengths.items ≡ base → levels_seen w.held ≡ level_ground → w.pending ≡ false → undone w.held.log.items (table_at w.held.variables.items) ≡ (λ e. 0) → IsSound w.held → Stands known base w []
+stands_fresh : (known : Known) (base : List ℕ) (w : Walk) → w.lengths.items ≡ base → levels_seen w.held ≡ level_ground → w.pending ≡ false → undone_levels w.held.log.items (table_at w.held.variables.items) ≡ (λ e. 0) → HasSoundLevels w.held → WalkStandsBehind known base w []
 stands_fresh known base w lengths seen closed fresh sound = record {
   lengths = lengths ∙ sym (append-nil base);
   seen = seen;
@@ -88,21 +88,21 @@ line_lengths : (shared : ℕ → Option ℕ) (known : Known) (line : List Phase)
 line_lengths shared known line cs e is = ap (lengths_in shared known) (e ∙ ap (λ l. front line ++ one_straight l) is) ∙ lengths_both shared known (front line) (one_straight cs)
 
 -- the line is told to its end
-module _ (known : Known) (base : List ℕ) (line : List Phase) (old : Walk) (s : Stands known base old line) where
-  told_lengths : (c : Located) (cs : List Located) → last_open line ≡ c ∷ cs → old.lengths.items ++ (min old.held.most (count old.held) + 1) ∷ [] ≡ base ++ lengths_in (told old.held.shares.now) known line
+module _ (known : Known) (base : List ℕ) (line : List Phase) (old : Walk) (s : WalkStandsBehind known base old line) where
+  told_lengths : (c : Located) (cs : List Located) → last_open line ≡ c ∷ cs → old.lengths.items ++ (min old.held.most (held_access_count old.held) + 1) ∷ [] ≡ base ++ lengths_in (told old.held.shares.now) known line
   told_lengths c cs is =
       let shared = told old.held.shares.now in
       let most : old.held.most ≡ (commands_leveled (told old.held.shares.now) 0 (core_commands known (c ∷ cs)) level_ground).most = ap (λ (l : Levels). l.most) (s.seen ∙ ap (λ x. commands_leveled (told old.held.shares.now) 0 (core_commands known x) level_ground) is) in
-      ap (λ l. l ++ (min old.held.most (count old.held) + 1) ∷ []) s.lengths
-      ∙ (append_assoc base (lengths_in (told old.held.shares.now) known (front line)) ((min old.held.most (count old.held) + 1) ∷ [])
+      ap (λ l. l ++ (min old.held.most (held_access_count old.held) + 1) ∷ []) s.lengths
+      ∙ (append_assoc base (lengths_in (told old.held.shares.now) known (front line)) ((min old.held.most (held_access_count old.held) + 1) ∷ [])
       ∙ ap (λ l. base ++ l)
-      (ap (λ n. lengths_in (told old.held.shares.now) known (front line) ++ n ∷ []) (least_one old.held.most (count old.held) s.sound.small.most ∙ ap suc most)
+      (ap (λ n. lengths_in (told old.held.shares.now) known (front line) ++ n ∷ []) (least_one old.held.most (held_access_count old.held) s.sound.small.most ∙ ap suc most)
       ∙ sym (line_lengths (told old.held.shares.now) known line (c ∷ cs) s.full is)))
 
   still_lengths : last_open line ≡ [] → old.lengths.items ≡ base ++ lengths_in (told old.held.shares.now) known line
   still_lengths is = s.lengths ∙ ap (λ l. base ++ l) (sym (line_lengths (told old.held.shares.now) known line [] s.full is ∙ append-nil (lengths_in (told old.held.shares.now) known (front line))))
 
-pub closes_told : (old mid new : Walk) → old.pending ≡ true → Tells old mid → new.held ≡ mid.held → new.lengths ≡ mid.lengths → new.pending ≡ false → new.going ≡ false → Closes old new
+pub closes_told : (old mid new : Walk) → old.pending ≡ true → TellsPhaseLength old mid → new.held ≡ mid.held → new.lengths ≡ mid.lengths → new.pending ≡ false → new.going ≡ false → Closes old new
 closes_told old mid new open_is t held lengths closed going known base line s = by (last_open line) refl
   where
     by : (cs : List Located) → last_open line ≡ cs → IsClosed known base line old new
@@ -112,10 +112,10 @@ closes_told old mid new open_is t held lengths closed going known base line s = 
         untrue e = cc
     by (c ∷ cs) is = record {
       stands = stands_fresh known (base ++ lengths_in (told old.held.shares.now) known line) new (ap (λ (v : Vec ℕ Global). v.items) lengths ∙ (t.lengths ∙ told_lengths known base line old s c cs is)) (ap levels_seen held ∙ ground_seen old.held mid.held t.ends s.fresh) closed
-          (ap (λ (h : Held). undone h.log.items (table_at h.variables.items)) held ∙ ground_fresh old.held mid.held t.ends s.fresh)
-          (subst IsSound (sym held) (ground_sound old.held mid.held t.ends s.fresh));
+          (ap (λ (h : Held). undone_levels h.log.items (table_at h.variables.items)) held ∙ ground_fresh old.held mid.held t.ends s.fresh)
+          (subst HasSoundLevels (sym held) (ground_sound old.held mid.held t.ends s.fresh));
       going = going;
-      counted = ap count held ∙ ap length t.ends.reads;
+      counted = ap held_access_count held ∙ ap length t.ends.reads;
       shares = ap (λ (h : Held). h.shares.now) held ∙ t.ends.shares;
     }
 
@@ -130,9 +130,9 @@ closes_still old new open_is held lengths still going known base line s = by (la
     by [] is = record {
       stands = stands_fresh known (base ++ lengths_in (told old.held.shares.now) known line) new (ap (λ (v : Vec ℕ Global). v.items) lengths ∙ still_lengths known base line old s is)
           (ap levels_seen held ∙ (s.seen ∙ ap (λ x. commands_leveled (told old.held.shares.now) 0 (core_commands known x) level_ground) is)) (still ∙ open_is)
-          (ap (λ (h : Held). undone h.log.items (table_at h.variables.items)) held ∙ s.fresh) (subst IsSound (sym held) s.sound);
+          (ap (λ (h : Held). undone_levels h.log.items (table_at h.variables.items)) held ∙ s.fresh) (subst HasSoundLevels (sym held) s.sound);
       going = going;
-      counted = ap count held;
+      counted = ap held_access_count held;
       shares = ap (λ (h : Held). h.shares.now) held;
     }
 
@@ -141,22 +141,22 @@ closes_still old new open_is held lengths still going known base line s = by (la
 abbrev pub put_held : Walk → Held → Walk
 put_held w h = record { held = h; pending = w.pending; going = w.going; lengths = w.lengths }
 
-pub tested_so : {ways : Leads} (old a new : Walk) (h : Held) (test : Expr) (level : ℕ) → Closes old a → LevelsTerm ways a.held h 0 test level → Tells (put_held a h) new → WalksTest ways old new test
+pub tested_so : {ways : Leads} (old a new : Walk) (h : Held) (test : Expr) (level : ℕ) → Closes old a → LevelsTerm ways a.held h 0 test level → TellsPhaseLength (put_held a h) new → WalksTest ways old new test
 tested_so old a new h test level closes levels t known u base line s =
     let k = closes known base line s in
-    let g = levels known u k.stands.sound (none_low (count a.held)) in
-    let v : core_term known (count a.held) (term_seen test) ≡ core_term known (count old.held) (term_seen test) = ap (λ n. core_term known n (term_seen test)) k.counted in
-    let fresh : undone h.log.items (table_at h.variables.items) ≡ (λ e. 0) = ap (λ l. undone l (table_at h.variables.items)) g.keeps.log ∙ (ap (λ l. undone a.held.log.items (table_at l)) g.keeps.variables ∙ k.stands.fresh) in
-    let most : h.most ≡ (term_leveled (told old.held.shares.now) 0 (core_term known (count old.held) (term_seen test)) level_ground).levels.most =
+    let g = levels known u k.stands.sound (none_low (held_access_count a.held)) in
+    let v : core_term known (held_access_count a.held) (term_seen test) ≡ core_term known (held_access_count old.held) (term_seen test) = ap (λ n. core_term known n (term_seen test)) k.counted in
+    let fresh : undone_levels h.log.items (table_at h.variables.items) ≡ (λ e. 0) = ap (λ l. undone_levels l (table_at h.variables.items)) g.keeps.log ∙ (ap (λ l. undone_levels a.held.log.items (table_at l)) g.keeps.variables ∙ k.stands.fresh) in
+    let most : h.most ≡ (term_leveled (told old.held.shares.now) 0 (core_term known (held_access_count old.held) (term_seen test)) level_ground).levels.most =
     ap (λ (l : Levels). l.most)
     (g.seen
-    ∙ (ap (λ x. (term_leveled (told x) 0 (core_term known (count a.held) (term_seen test)) (levels_seen a.held)).levels) k.shares
-    ∙ (ap (λ x. (term_leveled (told old.held.shares.now) 0 x (levels_seen a.held)).levels) v ∙ ap (λ x. (term_leveled (told old.held.shares.now) 0 (core_term known (count old.held) (term_seen test)) x).levels) k.stands.seen))) in
+    ∙ (ap (λ x. (term_leveled (told x) 0 (core_term known (held_access_count a.held) (term_seen test)) (levels_seen a.held)).levels) k.shares
+    ∙ (ap (λ x. (term_leveled (told old.held.shares.now) 0 x (levels_seen a.held)).levels) v ∙ ap (λ x. (term_leveled (told old.held.shares.now) 0 (core_term known (held_access_count old.held) (term_seen test)) x).levels) k.stands.seen))) in
     record {
       stands = stands_fresh known _ new
           (t.lengths
-          ∙ (ap (λ l. l ++ (min h.most (count h) + 1) ∷ []) (k.stands.lengths ∙ append-nil (base ++ lengths_in (told old.held.shares.now) known line))
-          ∙ ap (λ n. (base ++ lengths_in (told old.held.shares.now) known line) ++ n ∷ []) (least_one h.most (count h) g.sound.small.most ∙ ap suc most)))
+          ∙ (ap (λ l. l ++ (min h.most (held_access_count h) + 1) ∷ []) (k.stands.lengths ∙ append-nil (base ++ lengths_in (told old.held.shares.now) known line))
+          ∙ ap (λ n. (base ++ lengths_in (told old.held.shares.now) known line) ++ n ∷ []) (least_one h.most (held_access_count h) g.sound.small.most ∙ ap suc most)))
           (ground_seen h new.held t.ends fresh) (t.open_so ∙ k.stands.open_so) (ground_fresh h new.held t.ends fresh) (ground_sound h new.held t.ends fresh);
       going = t.going ∙ k.going;
       counted = ap length t.ends.reads ∙ (g.counted ∙ ap (λ n. n + term_accesses (term_seen test)) k.counted);
@@ -173,11 +173,11 @@ one_both : (cs ds : List Located) (d : Located) → one_straight (cs ++ d ∷ ds
 one_both [] ds d = refl
 one_both (c ∷ cs) ds d = refl
 
-added : (known : Known) (base : List ℕ) (line : List Phase) (a new : Walk) (cs : CoreCommands) (n : ℕ) (d : Located) (ds : List Located) → Stands known base a line → GivesCommands a.held new.held 0 cs n → core_commands known (d ∷ ds) ≡ cs
-    → new.lengths.items ≡ a.lengths.items → new.pending ≡ true → Stands known base new (front line ++ one_straight (last_open line ++ d ∷ ds))
+added : (known : Known) (base : List ℕ) (line : List Phase) (a new : Walk) (cs : CoreCommands) (n : ℕ) (d : Located) (ds : List Located) → WalkStandsBehind known base a line → GivesCommands a.held new.held 0 cs n → core_commands known (d ∷ ds) ≡ cs
+    → new.lengths.items ≡ a.lengths.items → new.pending ≡ true → WalkStandsBehind known base new (front line ++ one_straight (last_open line ++ d ∷ ds))
 added known base line a new cs n d ds s g core lengths open_is =
     let all = last_open line ++ d ∷ ds in
-    subst (λ (l : List Phase). Stands known base new (front line ++ l)) (sym (one_both (last_open line) ds d))
+    subst (λ (l : List Phase). WalkStandsBehind known base new (front line ++ l)) (sym (one_both (last_open line) ds d))
     (record {
       lengths =
           lengths
@@ -193,8 +193,8 @@ added known base line a new cs n d ds s g core lengths open_is =
           ∙ ap (λ l. commands_leveled (told new.held.shares.now) 0 (core_commands known l) level_ground) (sym (last_straight (front line) (last_open line ++ d ∷ ds)))))));
       open_so = open_is ∙ (sym (some_both (last_open line) ds d) ∙ ap is_some_command (sym (last_straight (front line) (last_open line ++ d ∷ ds))));
       fresh =
-          ap (λ l. undone l (table_at new.held.variables.items)) g.log
-          ∙ (undone_both a.held.log.items g.changes (table_at new.held.variables.items) ∙ (ap (undone a.held.log.items) g.undoes ∙ s.fresh));
+          ap (λ l. undone_levels l (table_at new.held.variables.items)) g.log
+          ∙ (undone_both a.held.log.items g.changes (table_at new.held.variables.items) ∙ (ap (undone_levels a.held.log.items) g.undoes ∙ s.fresh));
       sound = g.sound;
       full =
           sym (ap (λ l. l ++ one_straight (last_open (front line ++ straight (last_open line ++ d ∷ ds) ∷ []))) (front_straight (front line) (last_open line ++ d ∷ ds))
@@ -202,8 +202,8 @@ added known base line a new cs n d ds s g core lengths open_is =
     })
 
 -- behind a line whose lengths are told
-behind_line : (known : Known) (base : List ℕ) (line : List Phase) (shares : List (Option ℕ)) (w : Walk) (d : Located) (ds : List Located) → w.held.shares.now ≡ shares → Stands known (base ++ lengths_in (told shares) known line) w (straight (d ∷ ds) ∷ [])
-    → Stands known base w (line ++ straight (d ∷ ds) ∷ [])
+behind_line : (known : Known) (base : List ℕ) (line : List Phase) (shares : List (Option ℕ)) (w : Walk) (d : Located) (ds : List Located) → w.held.shares.now ≡ shares → WalkStandsBehind known (base ++ lengths_in (told shares) known line) w (straight (d ∷ ds) ∷ [])
+    → WalkStandsBehind known base w (line ++ straight (d ∷ ds) ∷ [])
 behind_line known base line shares w d ds same s = record {
   lengths =
       s.lengths
@@ -217,7 +217,7 @@ behind_line known base line shares w d ds same s = record {
 }
 
 -- phases that a line goes on with, but for a straight one
-pub behind_other : (known : Known) (base told_so : List ℕ) (line : List Phase) (w : Walk) (p : Phase) → IsOther p → Stands known told_so w [] → told_so ≡ base ++ lengths_in (told w.held.shares.now) known (line ++ p ∷ []) → Stands known base w (line ++ p ∷ [])
+pub behind_other : (known : Known) (base told_so : List ℕ) (line : List Phase) (w : Walk) (p : Phase) → IsOther p → WalkStandsBehind known told_so w [] → told_so ≡ base ++ lengths_in (told w.held.shares.now) known (line ++ p ∷ []) → WalkStandsBehind known base w (line ++ p ∷ [])
 behind_other known base told_so line w p other s is = record {
   lengths = s.lengths ∙ (append-nil told_so ∙ (is ∙ ap (λ l. base ++ lengths_in (told w.held.shares.now) known l) (sym (front_other line p other))));
   seen = s.seen ∙ ap (λ l. commands_leveled (told w.held.shares.now) 0 (core_commands known l) level_ground) (sym (last_other line p other));
@@ -275,40 +275,40 @@ pub walked_straight : {ways : Leads} (old a new : Walk) (c : Command) → OpensB
 walked_straight old a new c opens levels lengths open_is going_is known u r base line stage s = by old.going refl
   where
     n : ℕ
-    n = count old.held
+    n = held_access_count old.held
 
-    one : IsOne (phases r (count old.held) (action_seen c))
-    one = one_phase_of r (count old.held) (action_seen c) stage
+    one : IsOne (phases r (held_access_count old.held) (action_seen c))
+    one = one_phase_of r (held_access_count old.held) (action_seen c) stage
 
-    core : core_commands known (one.first ∷ one.rest) ≡ core_action known (count old.held) (action_seen c) no_commands
-    core = straight_core known r (count old.held) (action_seen c) (one.first ∷ one.rest) (few_one (phase_kind (action_seen c)) stage) one.is
+    core : core_commands known (one.first ∷ one.rest) ≡ core_action known (held_access_count old.held) (action_seen c) no_commands
+    core = straight_core known r (held_access_count old.held) (action_seen c) (one.first ∷ one.rest) (few_one (phase_kind (action_seen c)) stage) one.is
 
-    walked : (w : Walk) → count a.held ≡ count old.held → a.held.shares.now ≡ old.held.shares.now → IsSound a.held → Stands known base new (put old.going line (straight (one.first ∷ one.rest) ∷ []))
-        → IsWalked known base line old new (phases r (count old.held) (action_seen c)) (accesses_of (action_seen c))
+    walked : (w : Walk) → held_access_count a.held ≡ held_access_count old.held → a.held.shares.now ≡ old.held.shares.now → HasSoundLevels a.held → WalkStandsBehind known base new (put_phases old.going line (straight (one.first ∷ one.rest) ∷ []))
+        → PhasesAreWalked known base line old new (phases r (held_access_count old.held) (action_seen c)) (accesses_of (action_seen c))
     walked w counted shares sound stands =
-        let g = levels known u sound (none_low (count a.held)) in
+        let g = levels known u sound (none_low (held_access_count a.held)) in
         record {
-          stands = subst (λ (ps : List Phase). Stands known base new (put old.going line ps)) (sym one.is) stands;
-          going = going_is ∙ ap (goes_on old.going) (sym one.is);
+          stands = subst (λ (ps : List Phase). WalkStandsBehind known base new (put_phases old.going line ps)) (sym one.is) stands;
+          going = going_is ∙ ap (last_phase_goes_on old.going) (sym one.is);
           counted = g.counted ∙ ap (λ k. k + accesses_of (action_seen c)) counted;
           shares = g.shares ∙ shares;
         }
 
-    core_at : count a.held ≡ count old.held → core_commands known (one.first ∷ one.rest) ≡ core_action known (count a.held) (action_seen c) no_commands
+    core_at : held_access_count a.held ≡ held_access_count old.held → core_commands known (one.first ∷ one.rest) ≡ core_action known (held_access_count a.held) (action_seen c) no_commands
     core_at e = core ∙ ap (λ k. core_action known k (action_seen c) no_commands) (sym e)
 
-    by : (g : Bool) → old.going ≡ g → IsWalked known base line old new (phases r (count old.held) (action_seen c)) (accesses_of (action_seen c))
+    by : (g : Bool) → old.going ≡ g → PhasesAreWalked known base line old new (phases r (held_access_count old.held) (action_seen c)) (accesses_of (action_seen c))
     by true e =
         let same : a ≡ old = subst (λ (b : Bool). OpensBy b old a) e opens in
-        let stands = subst (λ (w : Walk). Stands known base w line) (sym same) s in
-        walked a (ap (λ (w : Walk). count w.held) same) (ap (λ (w : Walk). w.held.shares.now) same) stands.sound
-        (subst (λ (b : Bool). Stands known base new (put b line (straight (one.first ∷ one.rest) ∷ []))) (sym e)
-        (added known base line a new _ _ one.first one.rest stands (levels known u stands.sound (none_low (count a.held))) (core_at (ap (λ (w : Walk). count w.held) same)) lengths open_is))
+        let stands = subst (λ (w : Walk). WalkStandsBehind known base w line) (sym same) s in
+        walked a (ap (λ (w : Walk). held_access_count w.held) same) (ap (λ (w : Walk). w.held.shares.now) same) stands.sound
+        (subst (λ (b : Bool). WalkStandsBehind known base new (put_phases b line (straight (one.first ∷ one.rest) ∷ []))) (sym e)
+        (added known base line a new _ _ one.first one.rest stands (levels known u stands.sound (none_low (held_access_count a.held))) (core_at (ap (λ (w : Walk). held_access_count w.held) same)) lengths open_is))
     by false e =
         let k = subst (λ (b : Bool). OpensBy b old a) e opens known base line s in
-        let g = levels known u k.stands.sound (none_low (count a.held)) in
+        let g = levels known u k.stands.sound (none_low (held_access_count a.held)) in
         walked a k.counted k.shares k.stands.sound
-        (subst (λ (b : Bool). Stands known base new (put b line (straight (one.first ∷ one.rest) ∷ []))) (sym e)
+        (subst (λ (b : Bool). WalkStandsBehind known base new (put_phases b line (straight (one.first ∷ one.rest) ∷ []))) (sym e)
         (behind_line known base line old.held.shares.now new one.first one.rest (g.shares ∙ k.shares)
         (added known (base ++ lengths_in (told old.held.shares.now) known line) [] a new _ _ one.first one.rest k.stands g (core_at k.counted) lengths open_is)))
 
@@ -317,18 +317,18 @@ walked_straight old a new c opens levels lengths open_is going_is known u r base
 pub walked_none : {ways : Leads} (stages : List ℕ) (old new : Walk) (c : Command) → phase_kind (action_seen c) ≡ 0 → Skips old.held new.held (accesses_of (action_seen c)) → new.lengths.items ≡ old.lengths.items → new.pending ≡ old.pending → new.going ≡ old.going → WalksCommand ways stages old new c
 walked_none stages old new c stage skips lengths open_is going_is known u r base line tells s =
     let g = skips_gives old.held new.held (accesses_of (action_seen c)) s.sound skips in
-    let none = none_phases r (count old.held) (action_seen c) stage in
+    let none = none_phases r (held_access_count old.held) (action_seen c) stage in
     record {
-      stands = subst (λ (ps : List Phase). Stands known base new (put old.going line ps)) (sym none)
+      stands = subst (λ (ps : List Phase). WalkStandsBehind known base new (put_phases old.going line ps)) (sym none)
           (record {
             lengths = lengths ∙ (s.lengths ∙ ap (λ x. base ++ lengths_in (told x) known (front line)) (sym g.keeps.shares));
             seen = g.seen ∙ (s.seen ∙ ap (λ x. commands_leveled (told x) 0 (core_commands known (last_open line)) level_ground) (sym g.keeps.shares));
             open_so = open_is ∙ s.open_so;
-            fresh = ap (λ l. undone l (table_at new.held.variables.items)) g.keeps.log ∙ (ap (λ l. undone old.held.log.items (table_at l)) g.keeps.variables ∙ s.fresh);
+            fresh = ap (λ l. undone_levels l (table_at new.held.variables.items)) g.keeps.log ∙ (ap (λ l. undone_levels old.held.log.items (table_at l)) g.keeps.variables ∙ s.fresh);
             sound = g.sound;
             full = s.full;
           });
-      going = going_is ∙ ap (goes_on old.going) (sym none);
+      going = going_is ∙ ap (last_phase_goes_on old.going) (sym none);
       counted = g.counted;
       shares = g.keeps.shares;
     }
@@ -343,13 +343,13 @@ more_lengths shared known base line p ls is =
     append_assoc base (lengths_in shared known line) ls ∙ ap (λ l. base ++ l) (ap (λ l. lengths_in shared known line ++ l) is ∙ sym (lengths_both shared known line (p ∷ [])))
 
 -- one phase more, that is not straight
-walked_other : (known : Known) (base told_so : List ℕ) (line : List Phase) (old new : Walk) (p : Phase) (ps : List Phase) (n : ℕ) → IsOther p → ps ≡ p ∷ [] → Stands known told_so new [] → told_so ≡ base ++ lengths_in (told old.held.shares.now) known (line ++ p ∷ [])
-    → new.going ≡ false → count new.held ≡ count old.held + n → new.held.shares.now ≡ old.held.shares.now → IsWalked known base line old new ps n
+walked_other : (known : Known) (base told_so : List ℕ) (line : List Phase) (old new : Walk) (p : Phase) (ps : List Phase) (n : ℕ) → IsOther p → ps ≡ p ∷ [] → WalkStandsBehind known told_so new [] → told_so ≡ base ++ lengths_in (told old.held.shares.now) known (line ++ p ∷ [])
+    → new.going ≡ false → held_access_count new.held ≡ held_access_count old.held + n → new.held.shares.now ≡ old.held.shares.now → PhasesAreWalked known base line old new ps n
 walked_other known base told_so line old new p ps n other is s all going counted shares = record {
-  stands = subst (λ (qs : List Phase). Stands known base new (put old.going line qs)) (sym is)
-      (subst (λ (l : List Phase). Stands known base new l) (put_other old.going line p other)
+  stands = subst (λ (qs : List Phase). WalkStandsBehind known base new (put_phases old.going line qs)) (sym is)
+      (subst (λ (l : List Phase). WalkStandsBehind known base new l) (put_other old.going line p other)
       (behind_other known base told_so line new p other s (all ∙ ap (λ x. base ++ lengths_in (told x) known (line ++ p ∷ [])) (sym shares))));
-  going = going ∙ (sym (goes_other old.going p other) ∙ ap (goes_on old.going) (sym is));
+  going = going ∙ (sym (goes_other old.going p other) ∙ ap (last_phase_goes_on old.going) (sym is));
   counted = counted;
   shares = shares;
 }
@@ -388,18 +388,18 @@ sum_later o a b m n e f = omega (arith, e, f)
 module _ (ways : Leads) (stages : List ℕ) (old new : Walk) (c : Command) where
   abbrev FormWalked : ActionForm → Type 0
   FormWalked f =
-      (known : Known) → IsLedBy ways known → (r : Around) (base : List ℕ) (line : List Phase) → TellInside (table_at stages) f → are_straight (form_phases r (count old.held) c.id c.place f) ≡ false → Stands known base old line
-      → IsWalked known base line old new (form_phases r (count old.held) c.id c.place f) (own_accesses f + inner_accesses f)
+      (known : Known) → IsLedBy ways known → (r : Around) (base : List ℕ) (line : List Phase) → TellInside (table_at stages) f → are_straight (form_phases r (held_access_count old.held) c.id c.place f) ≡ false → WalkStandsBehind known base old line
+      → PhasesAreWalked known base line old new (form_phases r (held_access_count old.held) c.id c.place f) (own_accesses f + inner_accesses f)
 
   pub by_form : (f : ActionForm) → action_form_seen c.form ≡ f → (stage : ℕ) → stage ≡ table_at stages c.id → (stage ≡ 0 → ⊥) → (stage ≡ 1 → ⊥) → FormWalked f → WalksCommand ways stages old new c
   by_form f is stage known_stage none one walked known u r base line tells s =
-      let more = more_phases_of r (count old.held) (action_seen c) (λ e. none (known_stage ∙ (tells.0 ∙ e))) (λ e. one (known_stage ∙ (tells.0 ∙ e))) in
-      subst (λ (x : ActionForm). IsWalked known base line old new (form_phases r (count old.held) c.id c.place x) (own_accesses x + inner_accesses x)) (sym is)
-      (walked known u r base line (subst (λ (x : ActionForm). TellInside (table_at stages) x) is tells.1) (subst (λ (x : ActionForm). are_straight (form_phases r (count old.held) c.id c.place x) ≡ false) is more) s)
+      let more = more_phases_of r (held_access_count old.held) (action_seen c) (λ e. none (known_stage ∙ (tells.0 ∙ e))) (λ e. one (known_stage ∙ (tells.0 ∙ e))) in
+      subst (λ (x : ActionForm). PhasesAreWalked known base line old new (form_phases r (held_access_count old.held) c.id c.place x) (own_accesses x + inner_accesses x)) (sym is)
+      (walked known u r base line (subst (λ (x : ActionForm). TellInside (table_at stages) x) is tells.1) (subst (λ (x : ActionForm). are_straight (form_phases r (held_access_count old.held) c.id c.place x) ≡ false) is more) s)
 
 -- an `if`
 pub walked_choice : {ways : Leads} (stages : List ℕ) (old w1 w2 w3 w4 new : Walk) (c x : Command) (test : Expr) (other : MaybeAction) → WalksTest ways old w1 test → WalksCommand ways stages w1 w2 x → Closes w2 w3
-    → ((known : Known) → IsLedBy ways known → (r : Around) (base : List ℕ) (line : List Phase) → TellOther (table_at stages) other → Stands known base w3 line → IsWalked known base line w3 w4 (other_phases r (count w3.held) other) (other_accesses other)) → Closes w4 new
+    → ((known : Known) → IsLedBy ways known → (r : Around) (base : List ℕ) (line : List Phase) → TellOther (table_at stages) other → WalkStandsBehind known base w3 line → PhasesAreWalked known base line w3 w4 (other_phases r (held_access_count w3.held) other) (other_accesses other)) → Closes w4 new
     → FormWalked ways stages old new c (plain.decides (term_seen test) (action_seen x) other)
 walked_choice stages old w1 w2 w3 w4 new c x test other one two three four five known u r base line tells more s =
     let shared = told old.held.shares.now in
@@ -412,27 +412,27 @@ walked_choice stages old w1 w2 w3 w4 new c x test other one two three four five 
     let same2 = p2.shares ∙ p1.shares in
     let same3 = p3.shares ∙ same2 in
     let same4 = p4.shares ∙ same3 in
-    let n3 : count w3.held ≡ count old.held + k + accesses_of (action_seen x) = p3.counted ∙ (p2.counted ∙ ap (λ m. m + accesses_of (action_seen x)) p1.counted) in
-    let chosen : put w1.going [] (phases (in_arm r c.id true) (count w1.held) (action_seen x)) ≡ phases (in_arm r c.id true) (count old.held + k) (action_seen x) =
-    ap (λ b. put b [] (phases (in_arm r c.id true) (count w1.held) (action_seen x))) p1.going ∙ (put_first (phases (in_arm r c.id true) (count w1.held) (action_seen x)) ∙ ap (λ m. phases (in_arm r c.id true) m (action_seen x)) p1.counted) in
-    let second : put w3.going [] (other_phases (in_arm r c.id false) (count w3.held) other) ≡ other_phases (in_arm r c.id false) (count old.held + k + accesses_of (action_seen x)) other =
-    ap (λ b. put b [] (other_phases (in_arm r c.id false) (count w3.held) other)) p3.going ∙ (put_first (other_phases (in_arm r c.id false) (count w3.held) other) ∙ ap (λ m. other_phases (in_arm r c.id false) m other) n3) in
-    let here = located r (count old.held) (action c.id c.place (plain.decides (term_seen test) (action_seen x) other)) in
+    let n3 : held_access_count w3.held ≡ held_access_count old.held + k + accesses_of (action_seen x) = p3.counted ∙ (p2.counted ∙ ap (λ m. m + accesses_of (action_seen x)) p1.counted) in
+    let chosen : put_phases w1.going [] (phases (in_arm r c.id true) (held_access_count w1.held) (action_seen x)) ≡ phases (in_arm r c.id true) (held_access_count old.held + k) (action_seen x) =
+    ap (λ b. put_phases b [] (phases (in_arm r c.id true) (held_access_count w1.held) (action_seen x))) p1.going ∙ (put_first (phases (in_arm r c.id true) (held_access_count w1.held) (action_seen x)) ∙ ap (λ m. phases (in_arm r c.id true) m (action_seen x)) p1.counted) in
+    let second : put_phases w3.going [] (other_phases (in_arm r c.id false) (held_access_count w3.held) other) ≡ other_phases (in_arm r c.id false) (held_access_count old.held + k + accesses_of (action_seen x)) other =
+    ap (λ b. put_phases b [] (other_phases (in_arm r c.id false) (held_access_count w3.held) other)) p3.going ∙ (put_first (other_phases (in_arm r c.id false) (held_access_count w3.held) other) ∙ ap (λ m. other_phases (in_arm r c.id false) m other) n3) in
+    let here = located r (held_access_count old.held) (action c.id c.place (plain.decides (term_seen test) (action_seen x) other)) in
     walked_other known base _ line old new
-    (decided (located r (count old.held) (action c.id c.place (plain.decides (term_seen test) (action_seen x) other))) (of_list (phases (in_arm r c.id true) (count old.held + k) (action_seen x)))
-    (of_list (other_phases (in_arm r c.id false) (count old.held + k + accesses_of (action_seen x)) other))) _ _ tt (choice_more _ _ _ more) p5.stands
-    (ap (λ l. (((base ++ lengths_in (told old.held.shares.now) known line) ++ block_length (told old.held.shares.now) (tests (core_term known (count old.held) (term_seen test))) ∷ []) ++ l) ++ lengths_in (told w4.held.shares.now) known (put w3.going [] (other_phases (in_arm r c.id false) (count w3.held) other)))
-    (ap (λ y. lengths_in (told y) known (put w1.going [] (phases (in_arm r c.id true) (count w1.held) (action_seen x)))) same2 ∙ ap (lengths_in (told old.held.shares.now) known) chosen)
-    ∙ (ap (λ l. (((base ++ lengths_in (told old.held.shares.now) known line) ++ block_length (told old.held.shares.now) (tests (core_term known (count old.held) (term_seen test))) ∷ []) ++ lengths_in (told old.held.shares.now) known (phases (in_arm r c.id true) (count old.held + k) (action_seen x))) ++ l)
-    (ap (λ y. lengths_in (told y) known (put w3.going [] (other_phases (in_arm r c.id false) (count w3.held) other))) same4 ∙ ap (lengths_in (told old.held.shares.now) known) second)
-    ∙ (ap (λ l. l ++ lengths_in (told old.held.shares.now) known (other_phases (in_arm r c.id false) (count old.held + k + accesses_of (action_seen x)) other)) (append_assoc (base ++ lengths_in (told old.held.shares.now) known line) (block_length (told old.held.shares.now) (tests (core_term known (count old.held) (term_seen test))) ∷ []) (lengths_in (told old.held.shares.now) known (phases (in_arm r c.id true) (count old.held + k) (action_seen x))))
-    ∙ (append_assoc (base ++ lengths_in (told old.held.shares.now) known line) _ (lengths_in (told old.held.shares.now) known (other_phases (in_arm r c.id false) (count old.held + k + accesses_of (action_seen x)) other))
+    (decided (located r (held_access_count old.held) (action c.id c.place (plain.decides (term_seen test) (action_seen x) other))) (of_list (phases (in_arm r c.id true) (held_access_count old.held + k) (action_seen x)))
+    (of_list (other_phases (in_arm r c.id false) (held_access_count old.held + k + accesses_of (action_seen x)) other))) _ _ tt (choice_more _ _ _ more) p5.stands
+    (ap (λ l. (((base ++ lengths_in (told old.held.shares.now) known line) ++ block_length (told old.held.shares.now) (tests (core_term known (held_access_count old.held) (term_seen test))) ∷ []) ++ l) ++ lengths_in (told w4.held.shares.now) known (put_phases w3.going [] (other_phases (in_arm r c.id false) (held_access_count w3.held) other)))
+    (ap (λ y. lengths_in (told y) known (put_phases w1.going [] (phases (in_arm r c.id true) (held_access_count w1.held) (action_seen x)))) same2 ∙ ap (lengths_in (told old.held.shares.now) known) chosen)
+    ∙ (ap (λ l. (((base ++ lengths_in (told old.held.shares.now) known line) ++ block_length (told old.held.shares.now) (tests (core_term known (held_access_count old.held) (term_seen test))) ∷ []) ++ lengths_in (told old.held.shares.now) known (phases (in_arm r c.id true) (held_access_count old.held + k) (action_seen x))) ++ l)
+    (ap (λ y. lengths_in (told y) known (put_phases w3.going [] (other_phases (in_arm r c.id false) (held_access_count w3.held) other))) same4 ∙ ap (lengths_in (told old.held.shares.now) known) second)
+    ∙ (ap (λ l. l ++ lengths_in (told old.held.shares.now) known (other_phases (in_arm r c.id false) (held_access_count old.held + k + accesses_of (action_seen x)) other)) (append_assoc (base ++ lengths_in (told old.held.shares.now) known line) (block_length (told old.held.shares.now) (tests (core_term known (held_access_count old.held) (term_seen test))) ∷ []) (lengths_in (told old.held.shares.now) known (phases (in_arm r c.id true) (held_access_count old.held + k) (action_seen x))))
+    ∙ (append_assoc (base ++ lengths_in (told old.held.shares.now) known line) _ (lengths_in (told old.held.shares.now) known (other_phases (in_arm r c.id false) (held_access_count old.held + k + accesses_of (action_seen x)) other))
     ∙ more_lengths (told old.held.shares.now) known base line _ _
-    (ap (λ l. block_length (told old.held.shares.now) (tests (core_term known (count old.held) (term_seen test))) ∷ l)
-    (sym (ap (map (block_length (told old.held.shares.now))) (append-nil (blocks_in (core_phases known (of_list (phases (in_arm r c.id true) (count old.held + k) (action_seen x)))) ++ blocks_in (core_phases known (of_list (other_phases (in_arm r c.id false) (count old.held + k + accesses_of (action_seen x)) other)))))
-    ∙ map-append (block_length (told old.held.shares.now)) (blocks_in (core_phases known (of_list (phases (in_arm r c.id true) (count old.held + k) (action_seen x))))) (blocks_in (core_phases known (of_list (other_phases (in_arm r c.id false) (count old.held + k + accesses_of (action_seen x)) other)))))))))))
+    (ap (λ l. block_length (told old.held.shares.now) (tests (core_term known (held_access_count old.held) (term_seen test))) ∷ l)
+    (sym (ap (map (block_length (told old.held.shares.now))) (append-nil (blocks_in (core_phases known (of_list (phases (in_arm r c.id true) (held_access_count old.held + k) (action_seen x)))) ++ blocks_in (core_phases known (of_list (other_phases (in_arm r c.id false) (held_access_count old.held + k + accesses_of (action_seen x)) other)))))
+    ∙ map-append (block_length (told old.held.shares.now)) (blocks_in (core_phases known (of_list (phases (in_arm r c.id true) (held_access_count old.held + k) (action_seen x))))) (blocks_in (core_phases known (of_list (other_phases (in_arm r c.id false) (held_access_count old.held + k + accesses_of (action_seen x)) other)))))))))))
     p5.going
-    (sum_three (count old.held) (count w1.held) (count w2.held) (count new.held) k (accesses_of (action_seen x)) (other_accesses other) p1.counted p2.counted (p5.counted ∙ (p4.counted ∙ ap (λ m. m + other_accesses other) p3.counted)))
+    (sum_three (held_access_count old.held) (held_access_count w1.held) (held_access_count w2.held) (held_access_count new.held) k (accesses_of (action_seen x)) (other_accesses other) p1.counted p2.counted (p5.counted ∙ (p4.counted ∙ ap (λ m. m + other_accesses other) p3.counted)))
     (p5.shares ∙ same4)
 
 -- a `while`
@@ -443,16 +443,16 @@ walked_repeat stages old w1 w2 new c x test one two three known u r base line te
     let p2 = two known u r _ [] tells p1.stands in
     let p3 = three known _ _ p2.stands in
     let same2 = p2.shares ∙ p1.shares in
-    let inside : put w1.going [] (phases r (count w1.held) (action_seen x)) ≡ phases r (count old.held + k) (action_seen x) =
-    ap (λ b. put b [] (phases r (count w1.held) (action_seen x))) p1.going ∙ (put_first (phases r (count w1.held) (action_seen x)) ∙ ap (λ m. phases r m (action_seen x)) p1.counted) in
-    walked_other known base _ line old new (repeated (located r (count old.held) (action c.id c.place (plain.repeats (term_seen test) (action_seen x)))) (of_list (phases r (count old.held + k) (action_seen x)))) _ _ tt refl p3.stands
-    (ap (λ l. ((base ++ lengths_in (told old.held.shares.now) known line) ++ block_length (told old.held.shares.now) (tests (core_term known (count old.held) (term_seen test))) ∷ []) ++ l)
-    (ap (λ y. lengths_in (told y) known (put w1.going [] (phases r (count w1.held) (action_seen x)))) same2 ∙ ap (lengths_in (told old.held.shares.now) known) inside)
-    ∙ (append_assoc (base ++ lengths_in (told old.held.shares.now) known line) (block_length (told old.held.shares.now) (tests (core_term known (count old.held) (term_seen test))) ∷ []) (lengths_in (told old.held.shares.now) known (phases r (count old.held + k) (action_seen x)))
+    let inside : put_phases w1.going [] (phases r (held_access_count w1.held) (action_seen x)) ≡ phases r (held_access_count old.held + k) (action_seen x) =
+    ap (λ b. put_phases b [] (phases r (held_access_count w1.held) (action_seen x))) p1.going ∙ (put_first (phases r (held_access_count w1.held) (action_seen x)) ∙ ap (λ m. phases r m (action_seen x)) p1.counted) in
+    walked_other known base _ line old new (repeated (located r (held_access_count old.held) (action c.id c.place (plain.repeats (term_seen test) (action_seen x)))) (of_list (phases r (held_access_count old.held + k) (action_seen x)))) _ _ tt refl p3.stands
+    (ap (λ l. ((base ++ lengths_in (told old.held.shares.now) known line) ++ block_length (told old.held.shares.now) (tests (core_term known (held_access_count old.held) (term_seen test))) ∷ []) ++ l)
+    (ap (λ y. lengths_in (told y) known (put_phases w1.going [] (phases r (held_access_count w1.held) (action_seen x)))) same2 ∙ ap (lengths_in (told old.held.shares.now) known) inside)
+    ∙ (append_assoc (base ++ lengths_in (told old.held.shares.now) known line) (block_length (told old.held.shares.now) (tests (core_term known (held_access_count old.held) (term_seen test))) ∷ []) (lengths_in (told old.held.shares.now) known (phases r (held_access_count old.held + k) (action_seen x)))
     ∙ more_lengths (told old.held.shares.now) known base line _ _
-    (ap (λ l. block_length (told old.held.shares.now) (tests (core_term known (count old.held) (term_seen test))) ∷ l)
-    (sym (ap (map (block_length (told old.held.shares.now))) (append-nil (blocks_in (core_phases known (of_list (phases r (count old.held + k) (action_seen x)))))))))))
-    p3.going (sum_two (count old.held) (count w1.held) (count new.held) k (accesses_of (action_seen x)) p1.counted (p3.counted ∙ p2.counted)) (p3.shares ∙ same2)
+    (ap (λ l. block_length (told old.held.shares.now) (tests (core_term known (held_access_count old.held) (term_seen test))) ∷ l)
+    (sym (ap (map (block_length (told old.held.shares.now))) (append-nil (blocks_in (core_phases known (of_list (phases r (held_access_count old.held + k) (action_seen x)))))))))))
+    p3.going (sum_two (held_access_count old.held) (held_access_count w1.held) (held_access_count new.held) k (accesses_of (action_seen x)) p1.counted (p3.counted ∙ p2.counted)) (p3.shares ∙ same2)
 
 -- the next straight command joins
 abbrev pub put_going : Walk → Walk
@@ -460,30 +460,30 @@ put_going w = record { held = w.held; pending = w.pending; going = true; lengths
 
 -- a `for`
 pub walked_turns : {ways : Leads} (stages : List ℕ) (old w1 w2 w3 new : Walk) (c x : Command) (iterator : _) (declared : _) (low high : _) (factor : _) (combine : MaybeAction) (combine_place : Place) → Closes old w1 → WalksCommand ways stages w1 w2 x
-    → ((known : Known) → IsLedBy ways known → (r : Around) (base : List ℕ) (line : List Phase) → TellOther (table_at stages) combine → Stands known base (put_going w2) line → IsWalked known base line (put_going w2) w3 (other_phases r (count w2.held) combine) (other_accesses combine)) → Closes w3 new
+    → ((known : Known) → IsLedBy ways known → (r : Around) (base : List ℕ) (line : List Phase) → TellOther (table_at stages) combine → WalkStandsBehind known base (put_going w2) line → PhasesAreWalked known base line (put_going w2) w3 (other_phases r (held_access_count w2.held) combine) (other_accesses combine)) → Closes w3 new
     → FormWalked ways stages old new c (plain.counts iterator declared low high factor (action_seen x) combine combine_place)
 walked_turns stages old w1 w2 w3 new c x iterator declared low high factor combine combine_place one two three four known u r base line tells more s =
     let inside = in_loop r (loop_of iterator low high factor) in
     let p1 = one known base line s in
     let p2 = two known u inside _ [] tells.0 p1.stands in
-    let goes : Stands known _ (put_going w2) _ = record { lengths = p2.stands.lengths; seen = p2.stands.seen; open_so = p2.stands.open_so; fresh = p2.stands.fresh; sound = p2.stands.sound; full = p2.stands.full } in
+    let goes : WalkStandsBehind known _ (put_going w2) _ = record { lengths = p2.stands.lengths; seen = p2.stands.seen; open_so = p2.stands.open_so; fresh = p2.stands.fresh; sound = p2.stands.sound; full = p2.stands.full } in
     let p3 = three known u inside _ _ tells.1 goes in
     let p4 = four known _ _ p3.stands in
     let same2 = p2.shares ∙ p1.shares in
     let same3 = p3.shares ∙ same2 in
-    let n2 : count w2.held ≡ count old.held + accesses_of (action_seen x) = p2.counted ∙ ap (λ m. m + accesses_of (action_seen x)) p1.counted in
-    let body : put w1.going [] (phases inside (count w1.held) (action_seen x)) ≡ phases inside (count old.held) (action_seen x) =
-    ap (λ b. put b [] (phases inside (count w1.held) (action_seen x))) p1.going ∙ (put_first (phases inside (count w1.held) (action_seen x)) ∙ ap (λ m. phases inside m (action_seen x)) p1.counted) in
-    let turn : put true (put w1.going [] (phases inside (count w1.held) (action_seen x))) (other_phases inside (count w2.held) combine) ≡ folded (phases inside (count old.held) (action_seen x)) (other_phases inside (count old.held + accesses_of (action_seen x)) combine) =
-    put_folded (put w1.going [] (phases inside (count w1.held) (action_seen x))) (other_phases inside (count w2.held) combine) p2.stands.full (other_full inside (count w2.held) combine)
-    ∙ (ap (λ l. folded l (other_phases inside (count w2.held) combine)) body ∙ ap (λ m. folded (phases inside (count old.held) (action_seen x)) (other_phases inside m combine)) n2) in
-    let all = folded (phases inside (count old.held) (action_seen x)) (other_phases inside (count old.held + accesses_of (action_seen x)) combine) in
+    let n2 : held_access_count w2.held ≡ held_access_count old.held + accesses_of (action_seen x) = p2.counted ∙ ap (λ m. m + accesses_of (action_seen x)) p1.counted in
+    let body : put_phases w1.going [] (phases inside (held_access_count w1.held) (action_seen x)) ≡ phases inside (held_access_count old.held) (action_seen x) =
+    ap (λ b. put_phases b [] (phases inside (held_access_count w1.held) (action_seen x))) p1.going ∙ (put_first (phases inside (held_access_count w1.held) (action_seen x)) ∙ ap (λ m. phases inside m (action_seen x)) p1.counted) in
+    let turn : put_phases true (put_phases w1.going [] (phases inside (held_access_count w1.held) (action_seen x))) (other_phases inside (held_access_count w2.held) combine) ≡ folded (phases inside (held_access_count old.held) (action_seen x)) (other_phases inside (held_access_count old.held + accesses_of (action_seen x)) combine) =
+    put_folded (put_phases w1.going [] (phases inside (held_access_count w1.held) (action_seen x))) (other_phases inside (held_access_count w2.held) combine) p2.stands.full (other_full inside (held_access_count w2.held) combine)
+    ∙ (ap (λ l. folded l (other_phases inside (held_access_count w2.held) combine)) body ∙ ap (λ m. folded (phases inside (held_access_count old.held) (action_seen x)) (other_phases inside m combine)) n2) in
+    let all = folded (phases inside (held_access_count old.held) (action_seen x)) (other_phases inside (held_access_count old.held + accesses_of (action_seen x)) combine) in
     walked_other known base _ line old new
-    (turns (located r (count old.held) (action c.id c.place (plain.counts iterator declared low high factor (action_seen x) combine combine_place))) (turn_count low.value high.value factor.value)
-    (of_list (folded (phases inside (count old.held) (action_seen x)) (other_phases inside (count old.held + accesses_of (action_seen x)) combine)))) _ _ tt (turn_more _ _ _ more) p4.stands
-    (ap (λ l. (base ++ lengths_in (told old.held.shares.now) known line) ++ l) (ap (λ y. lengths_in (told y) known (put true (put w1.going [] (phases inside (count w1.held) (action_seen x))) (other_phases inside (count w2.held) combine))) same3 ∙ ap (lengths_in (told old.held.shares.now) known) turn)
+    (turns (located r (held_access_count old.held) (action c.id c.place (plain.counts iterator declared low high factor (action_seen x) combine combine_place))) (turn_count low.value high.value factor.value)
+    (of_list (folded (phases inside (held_access_count old.held) (action_seen x)) (other_phases inside (held_access_count old.held + accesses_of (action_seen x)) combine)))) _ _ tt (turn_more _ _ _ more) p4.stands
+    (ap (λ l. (base ++ lengths_in (told old.held.shares.now) known line) ++ l) (ap (λ y. lengths_in (told y) known (put_phases true (put_phases w1.going [] (phases inside (held_access_count w1.held) (action_seen x))) (other_phases inside (held_access_count w2.held) combine))) same3 ∙ ap (lengths_in (told old.held.shares.now) known) turn)
     ∙ more_lengths (told old.held.shares.now) known base line _ _ (sym (ap (map (block_length (told old.held.shares.now))) (append-nil (blocks_in (core_phases known (of_list all)))))))
-    p4.going (sum_later (count old.held) (count w2.held) (count new.held) (accesses_of (action_seen x)) (other_accesses combine) n2 (p4.counted ∙ p3.counted)) (p4.shares ∙ same3)
+    p4.going (sum_later (held_access_count old.held) (held_access_count w2.held) (held_access_count new.held) (accesses_of (action_seen x)) (other_accesses combine) n2 (p4.counted ∙ p3.counted)) (p4.shares ∙ same3)
 
 -- A block.
 
@@ -493,13 +493,13 @@ parts_full r n (plain.action_then a rest) = (full r n a, parts_full r (n + acces
 
 pub record PartWalked (stages : List ℕ) (known : Known) (r : Around) (base : List ℕ) (line : List Phase) (start now : Walk) (rest all : List Command) : Type 0 where
   pub standing : List Phase
-  pub stands : Stands known base now standing
-  pub so : puts now.going standing (parts_phases r (count now.held) (actions (map action_seen rest))) ≡ puts start.going line (parts_phases r (count start.held) (actions (map action_seen all)))
-  pub counted : count now.held + part_accesses (actions (map action_seen rest)) ≡ count start.held + part_accesses (actions (map action_seen all))
+  pub stands : WalkStandsBehind known base now standing
+  pub so : puts now.going standing (parts_phases r (held_access_count now.held) (actions (map action_seen rest))) ≡ puts start.going line (parts_phases r (held_access_count start.held) (actions (map action_seen all)))
+  pub counted : held_access_count now.held + part_accesses (actions (map action_seen rest)) ≡ held_access_count start.held + part_accesses (actions (map action_seen all))
   pub shares : now.held.shares.now ≡ start.held.shares.now
   pub tells : TellPart (table_at stages) (actions (map action_seen rest))
 
-pub part_begin : (stages : List ℕ) (known : Known) (r : Around) (base : List ℕ) (line : List Phase) (w : Walk) (all : List Command) → TellPart (table_at stages) (actions (map action_seen all)) → Stands known base w line → PartWalked stages known r base line w w all all
+pub part_begin : (stages : List ℕ) (known : Known) (r : Around) (base : List ℕ) (line : List Phase) (w : Walk) (all : List Command) → TellPart (table_at stages) (actions (map action_seen all)) → WalkStandsBehind known base w line → PartWalked stages known r base line w w all all
 part_begin stages known r base line w all tells s = record { standing = line; stands = s; so = refl; counted = refl; shares = refl; tells = tells }
 
 sum_next : (a b m n all : ℕ) → b ≡ a + m → a + (m + n) ≡ all → b + n ≡ all
@@ -513,33 +513,33 @@ part_turn stages known u r base line start now next all i c within is walks h =
     let tells = subst (λ (l : List Command). TellPart (table_at stages) (actions (map action_seen l))) cut h.tells in
     let w = walks known u r base h.standing tells.0 h.stands in
     record {
-      standing = put now.going h.standing (phases r (count now.held) (action_seen c));
+      standing = put_phases now.going h.standing (phases r (held_access_count now.held) (action_seen c));
       stands = w.stands;
       so =
-          ap (λ b. puts b (put now.going h.standing (phases r (count now.held) (action_seen c))) (parts_phases r (count next.held) (actions (map action_seen (drop (i + 1) all))))) w.going
-          ∙ (ap (λ m. puts (goes_on now.going (phases r (count now.held) (action_seen c))) (put now.going h.standing (phases r (count now.held) (action_seen c))) (parts_phases r m (actions (map action_seen (drop (i + 1) all))))) w.counted
-          ∙ (ap (λ l. puts now.going h.standing (parts_phases r (count now.held) (actions (map action_seen l)))) (sym cut) ∙ h.so));
-      counted = sum_next (count now.held) (count next.held) (accesses_of (action_seen c)) (part_accesses (actions (map action_seen (drop (i + 1) all)))) _ w.counted (ap (λ l. count now.held + part_accesses (actions (map action_seen l))) (sym cut) ∙ h.counted);
+          ap (λ b. puts b (put_phases now.going h.standing (phases r (held_access_count now.held) (action_seen c))) (parts_phases r (held_access_count next.held) (actions (map action_seen (drop (i + 1) all))))) w.going
+          ∙ (ap (λ m. puts (last_phase_goes_on now.going (phases r (held_access_count now.held) (action_seen c))) (put_phases now.going h.standing (phases r (held_access_count now.held) (action_seen c))) (parts_phases r m (actions (map action_seen (drop (i + 1) all))))) w.counted
+          ∙ (ap (λ l. puts now.going h.standing (parts_phases r (held_access_count now.held) (actions (map action_seen l)))) (sym cut) ∙ h.so));
+      counted = sum_next (held_access_count now.held) (held_access_count next.held) (accesses_of (action_seen c)) (part_accesses (actions (map action_seen (drop (i + 1) all)))) _ w.counted (ap (λ l. held_access_count now.held + part_accesses (actions (map action_seen l))) (sym cut) ∙ h.counted);
       shares = w.shares ∙ h.shares;
       tells = tells.1;
     }
 
 pub record GroupsWalked (stages : List ℕ) (known : Known) (r : Around) (base : List ℕ) (line : List Phase) (start now : Walk) (rest all : List (Vec Command Global)) : Type 0 where
   pub standing : List Phase
-  pub stands : Stands known base now standing
-  pub so : standing ++ groups_phases r (count now.held) (groups (map part_seen rest)) ≡ line ++ groups_phases r (count start.held) (groups (map part_seen all))
-  pub counted : count now.held + groups_accesses (groups (map part_seen rest)) ≡ count start.held + groups_accesses (groups (map part_seen all))
+  pub stands : WalkStandsBehind known base now standing
+  pub so : standing ++ groups_phases r (held_access_count now.held) (groups (map part_seen rest)) ≡ line ++ groups_phases r (held_access_count start.held) (groups (map part_seen all))
+  pub counted : held_access_count now.held + groups_accesses (groups (map part_seen rest)) ≡ held_access_count start.held + groups_accesses (groups (map part_seen all))
   pub shares : now.held.shares.now ≡ start.held.shares.now
   pub tells : TellGroups (table_at stages) (groups (map part_seen rest))
 
-pub groups_begin : (stages : List ℕ) (known : Known) (r : Around) (base : List ℕ) (line : List Phase) (w : Walk) (all : List (Vec Command Global)) → TellGroups (table_at stages) (groups (map part_seen all)) → Stands known base w line → GroupsWalked stages known r base line w w all all
+pub groups_begin : (stages : List ℕ) (known : Known) (r : Around) (base : List ℕ) (line : List Phase) (w : Walk) (all : List (Vec Command Global)) → TellGroups (table_at stages) (groups (map part_seen all)) → WalkStandsBehind known base w line → GroupsWalked stages known r base line w w all all
 groups_begin stages known r base line w all tells s = record { standing = line; stands = s; so = refl; counted = refl; shares = refl; tells = tells }
 
 -- no phase goes on
 abbrev pub put_released : Walk → Walk
 put_released w = record { held = w.held; pending = w.pending; going = false; lengths = w.lengths }
 
-pub released : (known : Known) (base : List ℕ) (line : List Phase) (w : Walk) → Stands known base w line → Stands known base (put_released w) line
+pub released : (known : Known) (base : List ℕ) (line : List Phase) (w : Walk) → WalkStandsBehind known base w line → WalkStandsBehind known base (put_released w) line
 released known base line w s = record { lengths = s.lengths; seen = s.seen; open_so = s.open_so; fresh = s.fresh; sound = s.sound; full = s.full }
 
 sum_part : (a b n m p all : ℕ) → b + 0 ≡ a + p → a + (p + n) ≡ all → b + n ≡ all
@@ -549,7 +549,7 @@ plus_none : (n : ℕ) → n + 0 ≡ n
 plus_none n = omega arith
 
 pub groups_turn : (stages : List ℕ) (known : Known) (r : Around) (base : List ℕ) (line : List Phase) (start now next : Walk) (all : List (Vec Command Global)) (i : ℕ) (part : Vec Command Global) (cs rest : List Command) → i < length all → part ≡ get_or all i part → cs ≡ part.items → rest ≡ []
-    → (TellPart (table_at stages) (actions (map action_seen cs)) → (l : List Phase) → Stands known base (put_released now) l → PartWalked stages known r base l (put_released now) next rest cs)
+    → (TellPart (table_at stages) (actions (map action_seen cs)) → (l : List Phase) → WalkStandsBehind known base (put_released now) l → PartWalked stages known r base l (put_released now) next rest cs)
     → GroupsWalked stages known r base line start now (drop i all) all → GroupsWalked stages known r base line start next (drop (i + 1) all) all
 groups_turn stages known r base line start now next all i part cs rest within is items none walks h =
     let cut = at_item all i part within is in
@@ -558,35 +558,35 @@ groups_turn stages known r base line start now next all i part cs rest within is
     let p = part_seen part in
     let behind = groups (map part_seen (drop (i + 1) all)) in
     let same : actions (map action_seen cs) ≡ part_seen part = ap (λ l. actions (map action_seen l)) items in
-    let many : count next.held ≡ count now.held + part_accesses (part_seen part) =
-    sym (plus_none (count next.held)) ∙ (ap (λ l. count next.held + part_accesses (actions (map action_seen l))) (sym none) ∙ (w.counted ∙ ap (λ x. count now.held + part_accesses x) same)) in
-    let joins_so : w.standing ≡ h.standing ++ joined [] (parts_phases r (count now.held) (part_seen part)) =
-    ap (λ l. puts next.going w.standing (parts_phases r (count next.held) (actions (map action_seen l)))) (sym none)
-    ∙ (w.so ∙ (ap (λ x. puts false h.standing (parts_phases r (count now.held) x)) same ∙ puts_joined h.standing (parts_phases r (count now.held) (part_seen part)) (parts_full r (count now.held) (part_seen part)))) in
+    let many : held_access_count next.held ≡ held_access_count now.held + part_accesses (part_seen part) =
+    sym (plus_none (held_access_count next.held)) ∙ (ap (λ l. held_access_count next.held + part_accesses (actions (map action_seen l))) (sym none) ∙ (w.counted ∙ ap (λ x. held_access_count now.held + part_accesses x) same)) in
+    let joins_so : w.standing ≡ h.standing ++ joined [] (parts_phases r (held_access_count now.held) (part_seen part)) =
+    ap (λ l. puts next.going w.standing (parts_phases r (held_access_count next.held) (actions (map action_seen l)))) (sym none)
+    ∙ (w.so ∙ (ap (λ x. puts false h.standing (parts_phases r (held_access_count now.held) x)) same ∙ puts_joined h.standing (parts_phases r (held_access_count now.held) (part_seen part)) (parts_full r (held_access_count now.held) (part_seen part)))) in
     record {
       standing = w.standing;
       stands = w.stands;
       so =
-          ap (λ l. l ++ groups_phases r (count next.held) behind) joins_so
-          ∙ (ap (λ m. (h.standing ++ joined [] (parts_phases r (count now.held) (part_seen part))) ++ groups_phases r m behind) many
-          ∙ (append_assoc h.standing (joined [] (parts_phases r (count now.held) (part_seen part))) (groups_phases r (count now.held + part_accesses (part_seen part)) behind)
-          ∙ (ap (λ l. h.standing ++ groups_phases r (count now.held) (groups (map part_seen l))) (sym cut) ∙ h.so)));
-      counted = sum_next (count now.held) (count next.held) (part_accesses (part_seen part)) (groups_accesses behind) _ many (ap (λ l. count now.held + groups_accesses (groups (map part_seen l))) (sym cut) ∙ h.counted);
+          ap (λ l. l ++ groups_phases r (held_access_count next.held) behind) joins_so
+          ∙ (ap (λ m. (h.standing ++ joined [] (parts_phases r (held_access_count now.held) (part_seen part))) ++ groups_phases r m behind) many
+          ∙ (append_assoc h.standing (joined [] (parts_phases r (held_access_count now.held) (part_seen part))) (groups_phases r (held_access_count now.held + part_accesses (part_seen part)) behind)
+          ∙ (ap (λ l. h.standing ++ groups_phases r (held_access_count now.held) (groups (map part_seen l))) (sym cut) ∙ h.so)));
+      counted = sum_next (held_access_count now.held) (held_access_count next.held) (part_accesses (part_seen part)) (groups_accesses behind) _ many (ap (λ l. held_access_count now.held + groups_accesses (groups (map part_seen l))) (sym cut) ∙ h.counted);
       shares = w.shares ∙ h.shares;
       tells = tells.1;
     }
 
 pub walked_block : {ways : Leads} (stages : List ℕ) (old now : Walk) (c : Command) (rest all : List (Vec Command Global)) → rest ≡ []
-    → ((known : Known) → IsLedBy ways known → (r : Around) (base : List ℕ) (line : List Phase) → TellGroups (table_at stages) (groups (map part_seen all)) → Stands known base old line → GroupsWalked stages known r base line old now rest all)
+    → ((known : Known) → IsLedBy ways known → (r : Around) (base : List ℕ) (line : List Phase) → TellGroups (table_at stages) (groups (map part_seen all)) → WalkStandsBehind known base old line → GroupsWalked stages known r base line old now rest all)
     → FormWalked ways stages old (put_released now) c (plain.blocks (groups (map part_seen all)))
 walked_block stages old now c rest all none walks known u r base line tells more s =
     let h = walks known u r base line tells s in
-    let same : h.standing ≡ line ++ groups_phases r (count old.held) (groups (map part_seen all)) =
-    sym (append-nil h.standing) ∙ (ap (λ l. h.standing ++ groups_phases r (count now.held) (groups (map part_seen l))) (sym none) ∙ h.so) in
+    let same : h.standing ≡ line ++ groups_phases r (held_access_count old.held) (groups (map part_seen all)) =
+    sym (append-nil h.standing) ∙ (ap (λ l. h.standing ++ groups_phases r (held_access_count now.held) (groups (map part_seen l))) (sym none) ∙ h.so) in
     record {
-      stands = subst (λ (l : List Phase). Stands known base (put_released now) l) (same ∙ put_more old.going line (groups_phases r (count old.held) (groups (map part_seen all))) more) (released known base h.standing now h.stands);
-      going = goes_more old.going (groups_phases r (count old.held) (groups (map part_seen all))) more;
-      counted = sym (plus_none (count now.held)) ∙ (ap (λ l. count now.held + groups_accesses (groups (map part_seen l))) (sym none) ∙ (h.counted ∙ ap (λ n. count old.held + n) (from_none (groups_accesses (groups (map part_seen all))))));
+      stands = subst (λ (l : List Phase). WalkStandsBehind known base (put_released now) l) (same ∙ put_more old.going line (groups_phases r (held_access_count old.held) (groups (map part_seen all))) more) (released known base h.standing now h.stands);
+      going = goes_more old.going (groups_phases r (held_access_count old.held) (groups (map part_seen all))) more;
+      counted = sym (plus_none (held_access_count now.held)) ∙ (ap (λ l. held_access_count now.held + groups_accesses (groups (map part_seen l))) (sym none) ∙ (h.counted ∙ ap (λ n. held_access_count old.held + n) (from_none (groups_accesses (groups (map part_seen all))))));
       shares = h.shares;
     }
   where
@@ -644,7 +644,7 @@ pub record IsBegun (w : Walk) (shares : List (Option ℕ)) : Type 0 where
   pub going : w.going ≡ false
   pub lengths : w.lengths.items ≡ []
 
-begun_stands : (known : Known) (w : Walk) (shares : List (Option ℕ)) → IsBegun w shares → Stands known [] w []
+begun_stands : (known : Known) (w : Walk) (shares : List (Option ℕ)) → IsBegun w shares → WalkStandsBehind known [] w []
 begun_stands known w shares b =
     let seen : levels_seen w.held ≡ level_ground =
     ap (λ l. levels_of l w.held.first w.held.most w.held.variables.items) b.reads
@@ -653,10 +653,10 @@ begun_stands known w shares b =
     ∙ (ap (λ l. levels_of [] 0 0 l) b.variables
     ∙ (ap (λ (f : ℕ → ℕ). record { variables = f; reads = read_in [] 0; most = 0 }) numbered_none ∙ ap (λ (f : ℕ → ℕ). record { variables = λ e. 0; reads = f; most = 0 }) (read_end []))))) in
     stands_fresh known [] w b.lengths seen b.pending
-    (ap (λ l. undone l (table_at w.held.variables.items)) b.log ∙ (ap table_at b.variables ∙ numbered_none))
+    (ap (λ l. undone_levels l (table_at w.held.variables.items)) b.log ∙ (ap table_at b.variables ∙ numbered_none))
     (record {
-      first = subst (λ (n : ℕ). n ≤ count w.held) (sym b.first) (none_low (count w.held));
-      small = subst (λ (l : Levels). AreSmall (count w.held) l) (sym seen) (record { variables = λ e. none_low (count w.held); reads = λ k. none_low (count w.held); most = none_low (count w.held) });
+      first = subst (λ (n : ℕ). n ≤ held_access_count w.held) (sym b.first) (none_low (held_access_count w.held));
+      small = subst (λ (l : Levels). LevelsAreSmall (held_access_count w.held) l) (sym seen) (record { variables = λ e. none_low (held_access_count w.held); reads = λ k. none_low (held_access_count w.held); most = none_low (held_access_count w.held) });
     })
 
 pub all_told : {ways : Leads} (p : Program) (first : ℕ) (before stages_are : List ℕ) (shares : List (Option ℕ)) (w0 w1 w2 : Walk) (body : Command) → p.body ≡ action_seen body → IsNumbered first p.body → before ≡ [] → table_at stages_are ≡ stages_in (action_seen body) (table_at before)
@@ -665,12 +665,12 @@ all_told p first before stages_are shares w0 w1 w2 body same numbered_from none 
     let tells_all = stages_tell (table_at stages_are) (action_seen body) (stages.known first (action_seen body) (table_at before) (table_at stages_are) (subst (IsNumbered first) same numbered_from) (λ i w. ap (λ f. f i) counted)) in
     let p1 = walks (known_of p) led nothing_around [] [] tells_all (begun_stands (known_of p) w0 shares b) in
     let p2 = closes (known_of p) [] _ p1.stands in
-    let line : put w0.going [] (phases nothing_around (count w0.held) (action_seen body)) ≡ phases_of p =
-    ap (λ g. put g [] (phases nothing_around (count w0.held) (action_seen body))) b.going
-    ∙ (put_first (phases nothing_around (count w0.held) (action_seen body)) ∙ (ap (λ l. phases nothing_around (length l) (action_seen body)) b.reads ∙ ap (phases nothing_around 0) (sym same))) in
+    let line : put_phases w0.going [] (phases nothing_around (held_access_count w0.held) (action_seen body)) ≡ phases_of p =
+    ap (λ g. put_phases g [] (phases nothing_around (held_access_count w0.held) (action_seen body))) b.going
+    ∙ (put_first (phases nothing_around (held_access_count w0.held) (action_seen body)) ∙ (ap (λ l. phases nothing_around (length l) (action_seen body)) b.reads ∙ ap (phases nothing_around 0) (sym same))) in
     let shared_is : told w1.held.shares.now ≡ shared p = ap told (p1.shares ∙ b.shares_are) ∙ fun_ext tells.all in
     p2.stands.lengths
-    ∙ (append-nil ([] ++ lengths_in (told w1.held.shares.now) (known_of p) (put w0.going [] (phases nothing_around (count w0.held) (action_seen body))))
+    ∙ (append-nil ([] ++ lengths_in (told w1.held.shares.now) (known_of p) (put_phases w0.going [] (phases nothing_around (held_access_count w0.held) (action_seen body))))
     ∙ (ap (lengths_in (told w1.held.shares.now) (known_of p)) line ∙ ap (λ s. lengths_in s (known_of p) (phases_of p)) shared_is))
 
 -- Cases on how many phases a command has.
@@ -687,11 +687,11 @@ view_few true c = refl
 view_few false c = refl
 
 -- a form that never has more
-pub never_more : {ways : Leads} (stages_are : List ℕ) (w : Walk) (c : Command) (f : ActionForm) → ((r : Around) → are_straight (form_phases r (count w.held) c.id c.place f) ≡ true) → FormWalked ways stages_are w w c f
+pub never_more : {ways : Leads} (stages_are : List ℕ) (w : Walk) (c : Command) (f : ActionForm) → ((r : Around) → are_straight (form_phases r (held_access_count w.held) c.id c.place f) ≡ true) → FormWalked ways stages_are w w c f
 never_more stages_are w c f few known u r base line tells more s = absurd (untrue (sym (few r) ∙ more))
   where
     untrue : true ≡ false → ⊥
     untrue e = cc
 
-pub walked_nothing : (known : Known) (base : List ℕ) (line : List Phase) (w : Walk) → Stands known base w line → IsWalked known base line w w [] 0
-walked_nothing known base line w s = record { stands = s; going = refl; counted = sym (plus_none (count w.held)); shares = refl }
+pub walked_nothing : (known : Known) (base : List ℕ) (line : List Phase) (w : Walk) → WalkStandsBehind known base w line → PhasesAreWalked known base line w w [] 0
+walked_nothing known base line w s = record { stands = s; going = refl; counted = sym (plus_none (held_access_count w.held)); shares = refl }

@@ -45,7 +45,7 @@ use Rattle.dh_ports.proofs.SpentSlots.{Knows, KnowsPast, Inner, Nested, Standing
 use Rattle.dh_lengths.specs.declared.sharing.Met.{Met}
 use Rattle.dh_lengths.specs.declared.sharing.Met.TheVariants as met
 use Rattle.dh_lengths.specs.LiveFirsts as lives
-use Rattle.dh_lengths.specs.LiveFirsts.{FirstRead, first_read, or_else, met_read, none_read, opened, shares_of}
+use Rattle.dh_lengths.specs.LiveFirsts.{FirstRead, first_read, number_or_else, met_read, none_read, opened, shares_of}
 use Rattle.dh_lengths.specs.SharedReads.{told, IsKeyMet, IsMet, AreMet, FindsShares, TellsShares}
 
 absurd : {A : Type 0} → ⊥ → A
@@ -148,23 +148,23 @@ firsts class arms j [] = None
 firsts class arms j (noted_access a key ∷ ns) = if is_read_of class arms a key then Some j else firsts class arms (suc j) ns
 firsts class arms j (noted_set entity ∷ ns) = firsts class arms j ns
 
-or_none : (o : Option ℕ) → or_else o None ≡ o
+or_none : (o : Option ℕ) → number_or_else o None ≡ o
 or_none None = refl
 or_none (Some n) = refl
 
-firsts_append : (class : ℕ) (arms : List Arm) (j : ℕ) (xs ys : List Noted) → firsts class arms j (xs ++ ys) ≡ or_else (firsts class arms j xs) (firsts class arms (j + many xs) ys)
+firsts_append : (class : ℕ) (arms : List Arm) (j : ℕ) (xs ys : List Noted) → firsts class arms j (xs ++ ys) ≡ number_or_else (firsts class arms j xs) (firsts class arms (j + many xs) ys)
 firsts_append class arms j [] ys = ap (λ n. firsts class arms n ys) (plus_none j)
   where
     plus_none : (n : ℕ) → n ≡ n + 0
     plus_none n = omega arith
 firsts_append class arms j (noted_access a key ∷ xs) ys =
     by_test (is_read_of class arms a key) (firsts class arms (suc j) (xs ++ ys)) (firsts class arms (suc j) xs) (firsts class arms (j + suc (many xs)) ys)
-    (firsts_append class arms (suc j) xs ys ∙ ap (λ n. or_else (firsts class arms (suc j) xs) (firsts class arms n ys)) (shift j (many xs)))
+    (firsts_append class arms (suc j) xs ys ∙ ap (λ n. number_or_else (firsts class arms (suc j) xs) (firsts class arms n ys)) (shift j (many xs)))
   where
     shift : (m n : ℕ) → suc m + n ≡ m + suc n
     shift m n = omega arith
 
-    by_test : (b : Bool) (f g h : Option ℕ) → f ≡ or_else g h → (if b then Some j else f) ≡ or_else (if b then Some j else g) h
+    by_test : (b : Bool) (f g h : Option ℕ) → f ≡ number_or_else g h → (if b then Some j else f) ≡ number_or_else (if b then Some j else g) h
     by_test true f g h e = refl
     by_test false f g h e = e
 firsts_append class arms j (noted_set e ∷ xs) ys = firsts_append class arms j xs ys
@@ -173,7 +173,7 @@ firsts_append class arms j (noted_set e ∷ xs) ys = firsts_append class arms j 
 firsts_none : (class : ℕ) (arms : List Arm) (past : List Noted) (a : SourceAccess) (key : Option ℕ) → is_read_of class arms a key ≡ false → firsts class arms 0 past ≡ firsts class arms 0 (past ++ noted_access a key ∷ [])
 firsts_none class arms past a key e =
     sym (firsts_append class arms 0 past (noted_access a key ∷ [])
-    ∙ (ap (λ b. or_else (firsts class arms 0 past) (if b then Some (0 + many past) else None)) e ∙ or_none (firsts class arms 0 past)))
+    ∙ (ap (λ b. number_or_else (firsts class arms 0 past) (if b then Some (0 + many past) else None)) e ∙ or_none (firsts class arms 0 past)))
 
 firsts_set : (class : ℕ) (arms : List Arm) (past : List Noted) (entity : Option ℕ) → firsts class arms 0 past ≡ firsts class arms 0 (past ++ noted_set entity ∷ [])
 firsts_set class arms past entity = sym (firsts_append class arms 0 past (noted_set entity ∷ []) ∙ or_none (firsts class arms 0 past))
@@ -213,7 +213,7 @@ lives_set class past arms outer f entity l = record {
 lives_opens : (class : ℕ) (seen : List Arm) (past : List Noted) (arms : List Arm) (outer : List (List Arm)) (f : FirstRead) (a : Arm) → has_arm a seen ≡ false → KnowsPast seen past → Lives class past arms outer f → Lives class past (arms ++ a ∷ []) (arms ∷ outer) (opened f)
 lives_opens class seen past arms outer f a new knows l = record { now = l.now ∙ firsts_opened class seen arms a 0 past new knows; outs = (l.now, l.outs) }
 
-lives_closes : (class : ℕ) (past : List Noted) (arms o : List Arm) (outer : List (List Arm)) (now : Option ℕ) (xs : List (Option ℕ)) → Lives class past arms (o ∷ outer) (first_read now xs) → Lives class past o outer (lives.closed (first_read now xs))
+lives_closes : (class : ℕ) (past : List Noted) (arms o : List Arm) (outer : List (List Arm)) (now : Option ℕ) (xs : List (Option ℕ)) → Lives class past arms (o ∷ outer) (first_read now xs) → Lives class past o outer (lives.arm_closed (first_read now xs))
 lives_closes class past arms o outer now [] l = absurd l.outs
 lives_closes class past arms o outer now (x ∷ xs) l = record { now = l.outs.0; outs = l.outs.1 }
 
@@ -260,16 +260,16 @@ module _ (class : ℕ) (past : List Noted) (a : SourceAccess) (key : Option ℕ)
 
       by_test : ((own == class) ≡ true) ⊎ ((own == class) ≡ false) → Lives class (past ++ noted_access a key ∷ []) a.site.arms outer (met_read own number class f)
       by_test (inl e) =
-          subst (λ (b : Bool). Lives class (past ++ noted_access a key ∷ []) a.site.arms outer (if b then first_read (or_else f.now (Some number)) f.outer else f)) (sym e)
+          subst (λ (b : Bool). Lives class (past ++ noted_access a key ∷ []) a.site.arms outer (if b then first_read (number_or_else f.now (Some number)) f.outer else f)) (sym e)
           (record {
             now =
-                ap (λ o. or_else o (Some number)) l.now
-                ∙ (ap (λ m. or_else (firsts class a.site.arms 0 past) (Some m)) (counts ∙ from_none (many past))
-                ∙ sym (firsts_append class a.site.arms 0 past (noted_access a key ∷ []) ∙ ap (λ b. or_else (firsts class a.site.arms 0 past) (if b then Some (0 + many past) else None)) (test ∙ e)));
+                ap (λ o. number_or_else o (Some number)) l.now
+                ∙ (ap (λ m. number_or_else (firsts class a.site.arms 0 past) (Some m)) (counts ∙ from_none (many past))
+                ∙ sym (firsts_append class a.site.arms 0 past (noted_access a key ∷ []) ∙ ap (λ b. number_or_else (firsts class a.site.arms 0 past) (if b then Some (0 + many past) else None)) (test ∙ e)));
             outs = outs_more outer f.outer n l.outs;
           })
       by_test (inr e) =
-          subst (λ (b : Bool). Lives class (past ++ noted_access a key ∷ []) a.site.arms outer (if b then first_read (or_else f.now (Some number)) f.outer else f)) (sym e)
+          subst (λ (b : Bool). Lives class (past ++ noted_access a key ∷ []) a.site.arms outer (if b then first_read (number_or_else f.now (Some number)) f.outer else f)) (sym e)
           (lives_none outer f (test ∙ e) n l)
 
 -- The first read of a class is the first that a read of it shares.
@@ -581,7 +581,7 @@ module _ (w : Walk) where
     walk_told (arm_closes ∷ es) (m ∷ ms) seen [] arms past v at number levels fs s l r g sites = absurd r
     walk_told (arm_closes ∷ es) (m ∷ ms) seen (o ∷ outer) arms past v at number levels fs s l r g sites =
         ap (λ x. shares_of fs number (x ∷ ms)) g.0
-        ∙ walk_told es ms seen outer o past v (at + 1) number (λ slot. gone_back (levels slot)) (λ class. lives.closed (fs class)) (stands_closes w (length w.keys) seen past v at number levels o outer arms s)
+        ∙ walk_told es ms seen outer o past v (at + 1) number (λ slot. gone_back (levels slot)) (λ class. lives.arm_closed (fs class)) (stands_closes w (length w.keys) seen past v at number levels o outer arms s)
         (λ c h. lives_closes c past arms o outer (fs c).now (fs c).outer (l c h)) r g.1 sites
     walk_told (parts_begin ∷ es) (m ∷ ms) seen outer arms past v at number levels fs s l r g sites =
         ap (λ x. shares_of fs number (x ∷ ms)) g.0 ∙ walk_told es ms seen outer arms past v (at + 1) number levels fs (stands_later w (length w.keys) seen past v at number levels outer arms s) l r g.1 sites

@@ -7,7 +7,7 @@ use Rattle.dh_events.specs.Tables.{with_number}
 use Rattle.dh_events.proofs.Turns.{at_place}
 use Rattle.dh_meaning.specs.Levels.{with_value}
 use Rattle.dh_lengths.specs.declared.undoing.Mark.{Mark}
-use Rattle.dh_lengths.specs.Undone.{mark, undone, redone, marks_now, joined_all, has_mark}
+use Rattle.dh_lengths.specs.Undone.{mark, undone_levels, redone, marks_with_levels, joined_all, has_mark}
 
 absurd : {A : Type 0} → ⊥ → A
 absurd e = elim e [ ]
@@ -34,7 +34,7 @@ pub join_turn : (test : ℕ) (ms : List Mark) (i : ℕ) (d : Mark) (f g all : �
     → joined_all test (drop (i + 1) ms) g ≡ all
 join_turn test ms i d f g all within set so = ap (λ h. joined_all test (drop (i + 1) ms) h) set ∙ (sym (ap (λ l. joined_all test l f) (at_place ms i d within)) ∙ so)
 
-undone_one : (ms : List Mark) (m : Mark) (f : ℕ → ℕ) → undone (ms ++ m ∷ []) f ≡ undone ms (with_number f m.entity m.level)
+undone_one : (ms : List Mark) (m : Mark) (f : ℕ → ℕ) → undone_levels (ms ++ m ∷ []) f ≡ undone_levels ms (with_number f m.entity m.level)
 undone_one [] m f = refl
 undone_one (x ∷ ms) m f = ap (λ h. with_number h x.entity x.level) (undone_one ms m f)
 
@@ -44,15 +44,15 @@ back_one i e = omega (arith, e)
 before_end : (i n : ℕ) → 0 < i → i ≤ n → i - 1 < n
 before_end i n e f = omega (arith, e, f)
 
-pub undo_turn : (ms : List Mark) (i : ℕ) (d : Mark) (f g all : ℕ → ℕ) → 0 < i → i ≤ length ms → g ≡ with_number f (get_or ms (i - 1) d).entity (get_or ms (i - 1) d).level → undone (take i ms) f ≡ all → undone (take (i - 1) ms) g ≡ all
+pub undo_turn : (ms : List Mark) (i : ℕ) (d : Mark) (f g all : ℕ → ℕ) → 0 < i → i ≤ length ms → g ≡ with_number f (get_or ms (i - 1) d).entity (get_or ms (i - 1) d).level → undone_levels (take i ms) f ≡ all → undone_levels (take (i - 1) ms) g ≡ all
 undo_turn ms i d f g all some within set so =
-    ap (λ h. undone (take (i - 1) ms) h) set
+    ap (λ h. undone_levels (take (i - 1) ms) h) set
     ∙ (sym (undone_one (take (i - 1) ms) (get_or ms (i - 1) d) f)
-    ∙ (ap (λ l. undone l f) (sym (take-suc ms (i - 1) d (before_end i (length ms) some within)) ∙ ap (λ n. take n ms) (back_one i some)) ∙ so))
+    ∙ (ap (λ l. undone_levels l f) (sym (take-suc ms (i - 1) d (before_end i (length ms) some within)) ∙ ap (λ n. take n ms) (back_one i some)) ∙ so))
 
 -- Facts.
 
-pub undone_both : (xs ys : List Mark) (f : ℕ → ℕ) → undone (xs ++ ys) f ≡ undone xs (undone ys f)
+pub undone_both : (xs ys : List Mark) (f : ℕ → ℕ) → undone_levels (xs ++ ys) f ≡ undone_levels xs (undone_levels ys f)
 undone_both [] ys f = refl
 undone_both (x ∷ xs) ys f = ap (λ h. with_number h x.entity x.level) (undone_both xs ys f)
 
@@ -73,22 +73,22 @@ put_back f g e level is = ap (λ h. with_number h e (g e)) is ∙ fun_ext (λ n.
     by_test n (inr t) = ap (λ b. if b then g e else (if n == e then level else g n)) t ∙ ap (λ b. if b then level else g n) (number_swap n e ∙ t)
 
 -- what is marked is as it was, whatever it is now; what is not is as it is now
-pub undone_there : (e : ℕ) (ms : List Mark) (f g : ℕ → ℕ) → has_mark e ms ≡ true → undone ms f e ≡ undone ms g e
+pub undone_there : (e : ℕ) (ms : List Mark) (f g : ℕ → ℕ) → has_mark e ms ≡ true → undone_levels ms f e ≡ undone_levels ms g e
 undone_there e [] f g h = absurd (untrue h)
   where
     untrue : false ≡ true → ⊥
     untrue x = cc
 undone_there e (m ∷ ms) f g h = by_test (m.entity == e) h (undone_there e ms f g)
   where
-    by_test : (b : Bool) → (b || has_mark e ms) ≡ true → (has_mark e ms ≡ true → undone ms f e ≡ undone ms g e) → (if b then m.level else undone ms f e) ≡ (if b then m.level else undone ms g e)
+    by_test : (b : Bool) → (b || has_mark e ms) ≡ true → (has_mark e ms ≡ true → undone_levels ms f e ≡ undone_levels ms g e) → (if b then m.level else undone_levels ms f e) ≡ (if b then m.level else undone_levels ms g e)
     by_test true h rest = refl
     by_test false h rest = rest h
 
-pub undone_none : (e : ℕ) (ms : List Mark) (f : ℕ → ℕ) → has_mark e ms ≡ false → undone ms f e ≡ f e
+pub undone_none : (e : ℕ) (ms : List Mark) (f : ℕ → ℕ) → has_mark e ms ≡ false → undone_levels ms f e ≡ f e
 undone_none e [] f h = refl
 undone_none e (m ∷ ms) f h = by_test (m.entity == e) h (undone_none e ms f)
   where
-    by_test : (b : Bool) → (b || has_mark e ms) ≡ false → (has_mark e ms ≡ false → undone ms f e ≡ f e) → (if b then m.level else undone ms f e) ≡ f e
+    by_test : (b : Bool) → (b || has_mark e ms) ≡ false → (has_mark e ms ≡ false → undone_levels ms f e ≡ f e) → (if b then m.level else undone_levels ms f e) ≡ f e
     by_test true h rest = absurd (untrue h)
       where
         untrue : true ≡ false → ⊥
@@ -96,7 +96,7 @@ undone_none e (m ∷ ms) f h = by_test (m.entity == e) h (undone_none e ms f)
     by_test false h rest = rest h
 
 -- set again
-redone_at : (e : ℕ) (ms : List Mark) (v f : ℕ → ℕ) → redone (marks_now v ms) f e ≡ (if has_mark e ms then v e else f e)
+redone_at : (e : ℕ) (ms : List Mark) (v f : ℕ → ℕ) → redone (marks_with_levels v ms) f e ≡ (if has_mark e ms then v e else f e)
 redone_at e [] v f = refl
 redone_at e (m ∷ ms) v f = redone_at e ms v (with_number f m.entity (v m.entity)) ∙ by_test (cases_Bool (m.entity == e))
   where
@@ -111,18 +111,18 @@ redone_at e (m ∷ ms) v f = redone_at e ms v (with_number f m.entity (v m.entit
     by_test (inr t) = ap (λ b. if has_mark e ms then v e else (if b then v m.entity else f e)) t ∙ sym (ap (λ b. if b || has_mark e ms then v e else f e) t)
 
 -- what was put back is set again
-pub redone_all : (ms : List Mark) (v : ℕ → ℕ) → redone (marks_now v ms) (undone ms v) ≡ v
-redone_all ms v = fun_ext (λ e. redone_at e ms v (undone ms v) ∙ by_test e (cases_Bool (has_mark e ms)))
+pub redone_all : (ms : List Mark) (v : ℕ → ℕ) → redone (marks_with_levels v ms) (undone_levels ms v) ≡ v
+redone_all ms v = fun_ext (λ e. redone_at e ms v (undone_levels ms v) ∙ by_test e (cases_Bool (has_mark e ms)))
   where
-    by_test : (e : ℕ) → ((has_mark e ms) ≡ true) ⊎ ((has_mark e ms) ≡ false) → (if has_mark e ms then v e else undone ms v e) ≡ v e
-    by_test e (inl t) = ap (λ b. if b then v e else undone ms v e) t
-    by_test e (inr t) = ap (λ b. if b then v e else undone ms v e) t ∙ undone_none e ms v t
+    by_test : (e : ℕ) → ((has_mark e ms) ≡ true) ⊎ ((has_mark e ms) ≡ false) → (if has_mark e ms then v e else undone_levels ms v e) ≡ v e
+    by_test e (inl t) = ap (λ b. if b then v e else undone_levels ms v e) t
+    by_test e (inr t) = ap (λ b. if b then v e else undone_levels ms v e) t ∙ undone_none e ms v t
 
 -- joined
 twice : (t a b : ℕ) → max t (max (max t (max a b)) b) ≡ max t (max a b)
 twice t a b = grind arith
 
-joined_at : (test e : ℕ) (ms : List Mark) (v f : ℕ → ℕ) → joined_all test (marks_now v ms) f e ≡ (if has_mark e ms then max test (max (f e) (v e)) else f e)
+joined_at : (test e : ℕ) (ms : List Mark) (v f : ℕ → ℕ) → joined_all test (marks_with_levels v ms) f e ≡ (if has_mark e ms then max test (max (f e) (v e)) else f e)
 joined_at test e [] v f = refl
 joined_at test e (m ∷ ms) v f = joined_at test e ms v (with_number f m.entity (max test (max (f m.entity) (v m.entity)))) ∙ by_test (cases_Bool (m.entity == e))
   where
@@ -145,8 +145,8 @@ joined_at test e (m ∷ ms) v f = joined_at test e ms v (with_number f m.entity 
         ∙ sym (ap (λ b. if b || has_mark e ms then max test (max (f e) (v e)) else f e) t)
 
 -- behind both arms: what one of them set has the levels of both and of the test
-pub joined_both : (test : ℕ) (xs ys : List Mark) (before first second : ℕ → ℕ) → undone xs first ≡ before
-    → (e : ℕ) → joined_all test (marks_now second (xs ++ ys)) first e ≡ (if has_mark e xs || has_mark e ys then max test (max (first e) (second e)) else before e)
+pub joined_both : (test : ℕ) (xs ys : List Mark) (before first second : ℕ → ℕ) → undone_levels xs first ≡ before
+    → (e : ℕ) → joined_all test (marks_with_levels second (xs ++ ys)) first e ≡ (if has_mark e xs || has_mark e ys then max test (max (first e) (second e)) else before e)
 joined_both test xs ys before first second undoes e = joined_at test e (xs ++ ys) second first ∙ by_test (cases_Bool (has_mark e (xs ++ ys)))
   where
     neither : (a b : Bool) → (a || b) ≡ false → a ≡ false
@@ -163,14 +163,14 @@ joined_both test xs ys before first second undoes e = joined_at test e (xs ++ ys
         ∙ sym (ap (λ b. if b then max test (max (first e) (second e)) else before e) (sym (marks_both e xs ys) ∙ t))))
 
 -- and both together put back what was before
-pub both_undone : (xs ys : List Mark) (before first second joined : ℕ → ℕ) → undone xs first ≡ before → undone ys second ≡ before
-    → ((e : ℕ) → (has_mark e xs || has_mark e ys) ≡ false → joined e ≡ before e) → undone (xs ++ ys) joined ≡ before
+pub both_undone : (xs ys : List Mark) (before first second joined : ℕ → ℕ) → undone_levels xs first ≡ before → undone_levels ys second ≡ before
+    → ((e : ℕ) → (has_mark e xs || has_mark e ys) ≡ false → joined e ≡ before e) → undone_levels (xs ++ ys) joined ≡ before
 both_undone xs ys before first second joined one two rest = undone_both xs ys joined ∙ fun_ext (λ e. by_first e (cases_Bool (has_mark e xs)))
   where
-    by_second : (e : ℕ) → has_mark e xs ≡ false → (has_mark e ys ≡ true) ⊎ (has_mark e ys ≡ false) → undone ys joined e ≡ before e
+    by_second : (e : ℕ) → has_mark e xs ≡ false → (has_mark e ys ≡ true) ⊎ (has_mark e ys ≡ false) → undone_levels ys joined e ≡ before e
     by_second e f (inl t) = undone_there e ys joined second t ∙ ap (λ h. h e) two
     by_second e f (inr t) = undone_none e ys joined t ∙ rest e (ap (λ b. b || has_mark e ys) f ∙ t)
 
-    by_first : (e : ℕ) → (has_mark e xs ≡ true) ⊎ (has_mark e xs ≡ false) → undone xs (undone ys joined) e ≡ before e
-    by_first e (inl t) = undone_there e xs (undone ys joined) first t ∙ ap (λ h. h e) one
-    by_first e (inr t) = undone_none e xs (undone ys joined) t ∙ by_second e t (cases_Bool (has_mark e ys))
+    by_first : (e : ℕ) → (has_mark e xs ≡ true) ⊎ (has_mark e xs ≡ false) → undone_levels xs (undone_levels ys joined) e ≡ before e
+    by_first e (inl t) = undone_there e xs (undone_levels ys joined) first t ∙ ap (λ h. h e) one
+    by_first e (inr t) = undone_none e xs (undone_levels ys joined) t ∙ by_second e t (cases_Bool (has_mark e ys))

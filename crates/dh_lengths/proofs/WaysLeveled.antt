@@ -10,7 +10,7 @@ use Rattle.dh_ways.specs.Kept.{KeptWay}
 use Rattle.dh_ways.specs.Linked.{IsSplit, hidden_kept, views_kept}
 use Rattle.dh_ways.specs.Seen.{hidden_seen, way_seen}
 use Rattle.dh_lengths.specs.HeldLevels.{hidden_level}
-use Rattle.dh_lengths.specs.KeptLevels.{first_of}
+use Rattle.dh_lengths.specs.KeptLevels.{first_hidden_variable}
 
 level_both : (v : ℕ → ℕ) (hs gs : List Hidden) → hidden_level v (hs ++ gs) ≡ max (hidden_level v hs) (hidden_level v gs)
 level_both v [] gs = least (hidden_level v gs)
@@ -48,10 +48,10 @@ module _ (v : ℕ → ℕ) where
       most_alone n = grind arith
 
 -- the first variable on a way
-pub first_told : (way : Option definitions.Way) (w : KeptWay) (x : Option own.Hidden) → Some (way_seen w) ≡ way → x ≡ slice_get w.hidden 0 → option_map (λ (h : own.Hidden). h.entity) x ≡ first_of (hidden_in way)
-first_told way w x is e = ap (option_map (λ (h : own.Hidden). h.entity)) e ∙ (each w.hidden ∙ ap (λ (o : Option definitions.Way). first_of (hidden_in o)) is)
+pub first_told : (way : Option definitions.Way) (w : KeptWay) (x : Option own.Hidden) → Some (way_seen w) ≡ way → x ≡ slice_get w.hidden 0 → option_map (λ (h : own.Hidden). h.entity) x ≡ first_hidden_variable (hidden_in way)
+first_told way w x is e = ap (option_map (λ (h : own.Hidden). h.entity)) e ∙ (each w.hidden ∙ ap (λ (o : Option definitions.Way). first_hidden_variable (hidden_in o)) is)
   where
-    each : (hs : List own.Hidden) → option_map (λ (h : own.Hidden). h.entity) (slice_get hs 0) ≡ first_of (map hidden_seen hs)
+    each : (hs : List own.Hidden) → option_map (λ (h : own.Hidden). h.entity) (slice_get hs 0) ≡ first_hidden_variable (map hidden_seen hs)
     each [] = refl
     each (h ∷ hs) = refl
 

@@ -16,8 +16,8 @@ use Rattle.dh_events.specs.Tables.{table_at}
 use Rattle.dh_lengths.specs.declared.held.Held.{Held}
 use Rattle.dh_lengths.specs.declared.undoing.Mark.{Mark}
 use Rattle.dh_lengths.specs.SharedReads.{told}
-use Rattle.dh_lengths.specs.Undone.{has_mark, undone}
-use Rattle.dh_lengths.specs.HeldLevels.{count, levels_seen, IsSound, KeepsVariables, Leveling}
+use Rattle.dh_lengths.specs.Undone.{has_mark, undone_levels}
+use Rattle.dh_lengths.specs.HeldLevels.{held_access_count, levels_seen, HasSoundLevels, KeepsVariableLevels, Leveling}
 use Rattle.dh_lengths.specs.LedBy.{way_by}
 use Rattle.dh_lengths.specs.LeveledCommands.{GivesCommands}
 
@@ -30,45 +30,45 @@ levels_behind shared outer no_terms l = l
 levels_behind shared outer (term_and t ts) l = levels_behind shared outer ts (term_leveled shared outer t l).levels
 
 -- variables from one on are set to levels, the last of them first
-abbrev pub set_from : (first : ℕ) → List ℕ → Levels → Levels
-set_from first [] l = l
-set_from first (n ∷ ns) l = with_variables (set_from (suc first) ns l) (with_value (set_from (suc first) ns l).variables first n)
+abbrev pub set_levels_from : (first : ℕ) → List ℕ → Levels → Levels
+set_levels_from first [] l = l
+set_levels_from first (n ∷ ns) l = with_variables (set_levels_from (suc first) ns l) (with_value (set_levels_from (suc first) ns l).variables first n)
 
 -- the level of each value, with the levels behind them
 pub record GivesEach (old new : Held) (each : List ℕ) (behind : Levels) (levels : List ℕ) (n : ℕ) : Type 0 where
   pub is : levels ≡ each
   pub seen : levels_seen new ≡ behind
-  pub sound : IsSound new
-  pub low : AllByRecursion (λ level. level ≤ count new) levels
-  pub counted : count new ≡ count old + n
-  pub keeps : KeepsVariables old new
+  pub sound : HasSoundLevels new
+  pub low : AllByRecursion (λ level. level ≤ held_access_count new) levels
+  pub counted : held_access_count new ≡ held_access_count old + n
+  pub keeps : KeepsVariableLevels old new
 
 abbrev pub LevelsEach : Leads → (old new : Held) → (outer : ℕ) → List Term → (levels : List ℕ) → Type 0
 LevelsEach ways old new outer ts levels =
     Leveling ways old outer (λ known.
-    GivesEach old new (each_level (told old.shares.now) outer (core_terms known (count old) (terms ts)) (levels_seen old)) (levels_behind (told old.shares.now) outer (core_terms known (count old) (terms ts)) (levels_seen old)) levels (terms_accesses (terms ts)))
+    GivesEach old new (each_level (told old.shares.now) outer (core_terms known (held_access_count old) (terms ts)) (levels_seen old)) (levels_behind (told old.shares.now) outer (core_terms known (held_access_count old) (terms ts)) (levels_seen old)) levels (terms_accesses (terms ts)))
 
 -- the variables from one on have these levels
 pub record SetsLevels (old new : Held) (first : ℕ) (levels : List ℕ) : Type 0 where
-  pub seen : levels_seen new ≡ set_from first levels (levels_seen old)
+  pub seen : levels_seen new ≡ set_levels_from first levels (levels_seen old)
   pub reads : new.reads.items ≡ old.reads.items
   pub shares : new.shares.now ≡ old.shares.now
   pub begun : new.first ≡ old.first
   pub changes : List Mark
   pub log : new.log.items ≡ old.log.items ++ changes
-  pub undoes : undone changes (table_at new.variables.items) ≡ table_at old.variables.items
+  pub undoes : undone_levels changes (table_at new.variables.items) ≡ table_at old.variables.items
   pub marks : (e : ℕ) → has_mark e changes ≡ (nat_le first e && nat_lt e (first + length levels))
 
 -- the number of the first variable that keeps an offset on the way of a name
-abbrev pub first_of : List Hidden → Option ℕ
-first_of [] = None
-first_of (h ∷ hs) = Some h.entity
+abbrev pub first_hidden_variable : List Hidden → Option ℕ
+first_hidden_variable [] = None
+first_hidden_variable (h ∷ hs) = Some h.entity
 
 abbrev pub first_kept : Leads → Option ℕ → Option ℕ
-first_kept ways entity = first_of (hidden_in (way_by ways entity))
+first_kept ways entity = first_hidden_variable (hidden_in (way_by ways entity))
 
 -- a view's command
 abbrev pub LevelsView : Leads → (old new : Held) → (outer : ℕ) → Ref → ViewForm → Type 0
 LevelsView ways old new outer name form =
     Leveling ways old outer (λ known.
-    GivesCommands old new outer (kept_by (hidden_in (way_of known name)) (core_terms known (count old) (terms (offsets_of (view_plan form)))) no_commands) (plan_accesses (view_plan form)))
+    GivesCommands old new outer (kept_by (hidden_in (way_of known name)) (core_terms known (held_access_count old) (terms (offsets_of (view_plan form)))) no_commands) (plan_accesses (view_plan form)))

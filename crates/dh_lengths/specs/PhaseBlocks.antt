@@ -9,15 +9,15 @@ use Rattle.dh_meets.specs.Sharing.{shared}
 
 abbrev mutual
   -- the commands of a straight phase are one block, and a test is one
-  pub blocks_of : CorePhase → List Block
-  blocks_of (straightly cs) = commands cs ∷ []
-  blocks_of (turning loop body) = blocks_in body
-  blocks_of (looping test body) = tests test ∷ blocks_in body
-  blocks_of (choosing test chosen other) = tests test ∷ (blocks_in chosen ++ blocks_in other)
+  pub phase_blocks : CorePhase → List Block
+  phase_blocks (straightly cs) = commands cs ∷ []
+  phase_blocks (turning loop body) = blocks_in body
+  phase_blocks (looping test body) = tests test ∷ blocks_in body
+  phase_blocks (choosing test chosen other) = tests test ∷ (blocks_in chosen ++ blocks_in other)
 
   pub blocks_in : CorePhases → List Block
   blocks_in no_core_phases = []
-  blocks_in (phase_and p ps) = blocks_of p ++ blocks_in ps
+  blocks_in (phase_and p ps) = phase_blocks p ++ blocks_in ps
 
 -- the length of each
 abbrev pub lengths_of : Program → List ℕ

@@ -20,8 +20,8 @@ use Rattle.dh_lengths.specs.declared.held.Held.{Held}
 use Rattle.dh_lengths.specs.declared.lengths.Walk.{Walk}
 use Rattle.dh_lengths.specs.PhaseBlocks.{blocks_in}
 use Rattle.dh_lengths.specs.SharedReads.{told}
-use Rattle.dh_lengths.specs.Undone.{undone}
-use Rattle.dh_lengths.specs.HeldLevels.{count, levels_seen, EndsPhase, IsSound}
+use Rattle.dh_lengths.specs.Undone.{undone_levels}
+use Rattle.dh_lengths.specs.HeldLevels.{held_access_count, levels_seen, EndsPhase, HasSoundLevels}
 
 -- the lengths of phases
 abbrev pub lengths_in : (shared : ℕ → Option ℕ) → Known → List Phase → List ℕ
@@ -32,7 +32,7 @@ lengths_in shared known ps = map (block_length shared) (blocks_in (core_phases k
 abbrev pub front : List Phase → List Phase
 front [] = []
 front (straight cs ∷ []) = []
-front (turns loop count body ∷ []) = turns loop count body ∷ []
+front (turns loop held_access_count body ∷ []) = turns loop held_access_count body ∷ []
 front (repeated loop body ∷ []) = repeated loop body ∷ []
 front (decided choice chosen other ∷ []) = decided choice chosen other ∷ []
 front (p ∷ q ∷ ps) = p ∷ front (q ∷ ps)
@@ -40,7 +40,7 @@ front (p ∷ q ∷ ps) = p ∷ front (q ∷ ps)
 abbrev pub last_open : List Phase → List Located
 last_open [] = []
 last_open (straight cs ∷ []) = cs
-last_open (turns loop count body ∷ []) = []
+last_open (turns loop held_access_count body ∷ []) = []
 last_open (repeated loop body ∷ []) = []
 last_open (decided choice chosen other ∷ []) = []
 last_open (p ∷ q ∷ ps) = last_open (q ∷ ps)
@@ -55,22 +55,22 @@ joins true line cs = front line ++ one_straight (last_open line ++ cs)
 joins false line cs = line ++ straight cs ∷ []
 
 -- a line with the phases of a command behind it
-abbrev pub put : (going : Bool) → (line further : List Phase) → List Phase
-put going line [] = line
-put going line (straight cs ∷ []) = joins going line cs
-put going line (turns loop count body ∷ []) = line ++ turns loop count body ∷ []
-put going line (repeated loop body ∷ []) = line ++ repeated loop body ∷ []
-put going line (decided choice chosen other ∷ []) = line ++ decided choice chosen other ∷ []
-put going line (p ∷ q ∷ ps) = line ++ (p ∷ q ∷ ps)
+abbrev pub put_phases : (going : Bool) → (line further : List Phase) → List Phase
+put_phases going line [] = line
+put_phases going line (straight cs ∷ []) = joins going line cs
+put_phases going line (turns loop held_access_count body ∷ []) = line ++ turns loop held_access_count body ∷ []
+put_phases going line (repeated loop body ∷ []) = line ++ repeated loop body ∷ []
+put_phases going line (decided choice chosen other ∷ []) = line ++ decided choice chosen other ∷ []
+put_phases going line (p ∷ q ∷ ps) = line ++ (p ∷ q ∷ ps)
 
 -- whether the next straight command joins the last phase then
-abbrev pub goes_on : (going : Bool) → (further : List Phase) → Bool
-goes_on going [] = going
-goes_on going (straight cs ∷ []) = true
-goes_on going (turns loop count body ∷ []) = false
-goes_on going (repeated loop body ∷ []) = false
-goes_on going (decided choice chosen other ∷ []) = false
-goes_on going (p ∷ q ∷ ps) = false
+abbrev pub last_phase_goes_on : (going : Bool) → (further : List Phase) → Bool
+last_phase_goes_on going [] = going
+last_phase_goes_on going (straight cs ∷ []) = true
+last_phase_goes_on going (turns loop held_access_count body ∷ []) = false
+last_phase_goes_on going (repeated loop body ∷ []) = false
+last_phase_goes_on going (decided choice chosen other ∷ []) = false
+last_phase_goes_on going (p ∷ q ∷ ps) = false
 
 -- Where a walk stands.
 
@@ -106,32 +106,32 @@ abbrev mutual
 
 -- the walk stands behind a line of phases, whose lengths it tells behind others: all but those of the open phase,
 -- whose levels it holds
-pub record Stands (known : Known) (base : List ℕ) (w : Walk) (line : List Phase) : Type 0 where
+pub record WalkStandsBehind (known : Known) (base : List ℕ) (w : Walk) (line : List Phase) : Type 0 where
   pub lengths : w.lengths.items ≡ base ++ lengths_in (told w.held.shares.now) known (front line)
   pub seen : levels_seen w.held ≡ commands_leveled (told w.held.shares.now) 0 (core_commands known (last_open line)) level_ground
   pub open_so : w.pending ≡ is_some_command (last_open line)
-  pub fresh : undone w.held.log.items (table_at w.held.variables.items) ≡ (λ e. 0)
-  pub sound : IsSound w.held
+  pub fresh : undone_levels w.held.log.items (table_at w.held.variables.items) ≡ (λ e. 0)
+  pub sound : HasSoundLevels w.held
   pub full : line ≡ front line ++ one_straight (last_open line)
 
 -- What steps make of it.
 
 -- the length of the phase that is held is told, and it is over
-pub record Tells (old new : Walk) : Type 0 where
-  pub lengths : new.lengths.items ≡ old.lengths.items ++ (min old.held.most (count old.held) + 1) ∷ []
+pub record TellsPhaseLength (old new : Walk) : Type 0 where
+  pub lengths : new.lengths.items ≡ old.lengths.items ++ (min old.held.most (held_access_count old.held) + 1) ∷ []
   pub ends : EndsPhase old.held new.held
   pub going : new.going ≡ old.going
   pub open_so : new.pending ≡ old.pending
 
 -- all phases of the line are told
 pub record IsClosed (known : Known) (base : List ℕ) (line : List Phase) (old new : Walk) : Type 0 where
-  pub stands : Stands known (base ++ lengths_in (told old.held.shares.now) known line) new []
+  pub stands : WalkStandsBehind known (base ++ lengths_in (told old.held.shares.now) known line) new []
   pub going : new.going ≡ false
-  pub counted : count new.held ≡ count old.held
+  pub counted : held_access_count new.held ≡ held_access_count old.held
   pub shares : new.held.shares.now ≡ old.held.shares.now
 
 abbrev pub Closes : (old new : Walk) → Type 0
-Closes old new = (known : Known) (base : List ℕ) (line : List Phase) → Stands known base old line → IsClosed known base line old new
+Closes old new = (known : Known) (base : List ℕ) (line : List Phase) → WalkStandsBehind known base old line → IsClosed known base line old new
 
 -- a phase goes on, or the next one begins
 abbrev pub OpensBy : (going : Bool) → (old new : Walk) → Type 0
@@ -139,35 +139,35 @@ OpensBy true old new = new ≡ old
 OpensBy false old new = Closes old new
 
 -- a test is told behind all phases of the line
-pub record IsTested (known : Known) (base : List ℕ) (line : List Phase) (test : Expr) (old new : Walk) : Type 0 where
-  pub stands : Stands known
-      ((base ++ lengths_in (told old.held.shares.now) known line) ++ block_length (told old.held.shares.now) (tests (core_term known (count old.held) (term_seen test))) ∷ [])
+pub record TestIsTold (known : Known) (base : List ℕ) (line : List Phase) (test : Expr) (old new : Walk) : Type 0 where
+  pub stands : WalkStandsBehind known
+      ((base ++ lengths_in (told old.held.shares.now) known line) ++ block_length (told old.held.shares.now) (tests (core_term known (held_access_count old.held) (term_seen test))) ∷ [])
       new []
   pub going : new.going ≡ false
-  pub counted : count new.held ≡ count old.held + term_accesses (term_seen test)
+  pub counted : held_access_count new.held ≡ held_access_count old.held + term_accesses (term_seen test)
   pub shares : new.held.shares.now ≡ old.held.shares.now
 
 abbrev pub WalksTest : (ways : Leads) → (old new : Walk) → Expr → Type 0
-WalksTest ways old new test = (known : Known) → IsLedBy ways known → (base : List ℕ) (line : List Phase) → Stands known base old line → IsTested known base line test old new
+WalksTest ways old new test = (known : Known) → IsLedBy ways known → (base : List ℕ) (line : List Phase) → WalkStandsBehind known base old line → TestIsTold known base line test old new
 
 -- further phases, with so many accesses
-pub record IsWalked (known : Known) (base : List ℕ) (line : List Phase) (old new : Walk) (further : List Phase) (n : ℕ) : Type 0 where
-  pub stands : Stands known base new (put old.going line further)
-  pub going : new.going ≡ goes_on old.going further
-  pub counted : count new.held ≡ count old.held + n
+pub record PhasesAreWalked (known : Known) (base : List ℕ) (line : List Phase) (old new : Walk) (further : List Phase) (n : ℕ) : Type 0 where
+  pub stands : WalkStandsBehind known base new (put_phases old.going line further)
+  pub going : new.going ≡ last_phase_goes_on old.going further
+  pub counted : held_access_count new.held ≡ held_access_count old.held + n
   pub shares : new.held.shares.now ≡ old.held.shares.now
 
 abbrev pub WalksStraight : (ways : Leads) → (old new : Walk) → Command → Type 0
 WalksStraight ways old new c =
-    (known : Known) → IsLedBy ways known → (r : Around) (base : List ℕ) (line : List Phase) → phase_kind (action_seen c) ≡ 1 → Stands known base old line
-    → IsWalked known base line old new (phases r (count old.held) (action_seen c)) (accesses_of (action_seen c))
+    (known : Known) → IsLedBy ways known → (r : Around) (base : List ℕ) (line : List Phase) → phase_kind (action_seen c) ≡ 1 → WalkStandsBehind known base old line
+    → PhasesAreWalked known base line old new (phases r (held_access_count old.held) (action_seen c)) (accesses_of (action_seen c))
 
 abbrev pub WalksCommand : (ways : Leads) → (stages : List ℕ) → (old new : Walk) → Command → Type 0
 WalksCommand ways stages old new c =
-    (known : Known) → IsLedBy ways known → (r : Around) (base : List ℕ) (line : List Phase) → TellsStages (table_at stages) (action_seen c) → Stands known base old line
-    → IsWalked known base line old new (phases r (count old.held) (action_seen c)) (accesses_of (action_seen c))
+    (known : Known) → IsLedBy ways known → (r : Around) (base : List ℕ) (line : List Phase) → TellsStages (table_at stages) (action_seen c) → WalkStandsBehind known base old line
+    → PhasesAreWalked known base line old new (phases r (held_access_count old.held) (action_seen c)) (accesses_of (action_seen c))
 
 abbrev pub WalksOther : (ways : Leads) → (stages : List ℕ) → (old new : Walk) → Option (Box Command Global) → Type 0
 WalksOther ways stages old new other =
-    (known : Known) → IsLedBy ways known → (r : Around) (base : List ℕ) (line : List Phase) → TellOther (table_at stages) (maybe_seen (option_map (λ b. action_seen b.value) other)) → Stands known base old line
-    → IsWalked known base line old new (other_phases r (count old.held) (maybe_seen (option_map (λ b. action_seen b.value) other))) (other_accesses (maybe_seen (option_map (λ b. action_seen b.value) other)))
+    (known : Known) → IsLedBy ways known → (r : Around) (base : List ℕ) (line : List Phase) → TellOther (table_at stages) (maybe_seen (option_map (λ b. action_seen b.value) other)) → WalkStandsBehind known base old line
+    → PhasesAreWalked known base line old new (other_phases r (held_access_count old.held) (maybe_seen (option_map (λ b. action_seen b.value) other))) (other_accesses (maybe_seen (option_map (λ b. action_seen b.value) other)))

@@ -53,16 +53,16 @@ AreMet known (e ∷ es) (m ∷ ms) = IsMet known e m × AreMet known es ms
 AreMet known _ _ = ⊥
 
 -- of so many classes
-abbrev pub IsWithin : (classes : ℕ) → Met → Type 0
-IsWithin classes (met.Read class) = class < classes
-IsWithin classes met.Alone = Unit {0}
-IsWithin classes met.Begins = Unit {0}
-IsWithin classes met.Ends = Unit {0}
-IsWithin classes met.Other = Unit {0}
+abbrev pub IsWithinClasses : (classes : ℕ) → Met → Type 0
+IsWithinClasses classes (met.Read class) = class < classes
+IsWithinClasses classes met.Alone = Unit {0}
+IsWithinClasses classes met.Begins = Unit {0}
+IsWithinClasses classes met.Ends = Unit {0}
+IsWithinClasses classes met.Other = Unit {0}
 
-abbrev pub AreWithin : (classes : ℕ) → List Met → Type 0
-AreWithin classes [] = Unit {0}
-AreWithin classes (m ∷ ms) = IsWithin classes m × AreWithin classes ms
+abbrev pub AreWithinClasses : (classes : ℕ) → List Met → Type 0
+AreWithinClasses classes [] = Unit {0}
+AreWithinClasses classes (m ∷ ms) = IsWithinClasses classes m × AreWithinClasses classes ms
 
 -- of each access among events the read that it shares, by the classes of their keys
 pub record FindsShares (events : List Event) (shares : List (Option ℕ)) : Type 0 where

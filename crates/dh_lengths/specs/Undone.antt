@@ -7,9 +7,9 @@ abbrev pub mark : (entity level : ℕ) → Mark
 mark entity level = record { entity = entity; level = level }
 
 -- what they were before the changes of a log, which holds what was before each
-abbrev pub undone : List Mark → (ℕ → ℕ) → ℕ → ℕ
-undone [] f = f
-undone (m ∷ ms) f = with_number (undone ms f) m.entity m.level
+abbrev pub undone_levels : List Mark → (ℕ → ℕ) → ℕ → ℕ
+undone_levels [] f = f
+undone_levels (m ∷ ms) f = with_number (undone_levels ms f) m.entity m.level
 
 -- set to what marks say
 abbrev pub redone : List Mark → (ℕ → ℕ) → ℕ → ℕ
@@ -17,8 +17,8 @@ redone [] f = f
 redone (m ∷ ms) f = redone ms (with_number f m.entity m.level)
 
 -- the variables of marks have these levels
-abbrev pub marks_now : (ℕ → ℕ) → List Mark → List Mark
-marks_now f ms = map (λ m. mark m.entity (f m.entity)) ms
+abbrev pub marks_with_levels : (ℕ → ℕ) → List Mark → List Mark
+marks_with_levels f ms = map (λ m. mark m.entity (f m.entity)) ms
 
 -- raised to the levels of marks and of a test
 abbrev pub joined_all : (test : ℕ) → List Mark → (ℕ → ℕ) → ℕ → ℕ

@@ -8,7 +8,7 @@ ghost use Rattle.dh_tree.specs.Numbers.{IsNumbered};
 ghost use Rattle.dh_tree.specs.Seen.{program_seen};
 ghost use Rattle.dh_ways.specs.CutStands.{HasFewWays};
 ghost use Rattle.dh_lengths.specs.PhaseBlocks.{lengths_of};
-ghost use Rattle.dh_lengths.specs.PhaseWalks.{Closes, OpensBy, Tells, WalksCommand, WalksOther, WalksStraight, WalksTest};
+ghost use Rattle.dh_lengths.specs.PhaseWalks.{Closes, OpensBy, TellsPhaseLength, WalksCommand, WalksOther, WalksStraight, WalksTest};
 
 use crate::commands::level_command;
 use crate::held::Held;
@@ -37,7 +37,7 @@ pub struct Walk<'a> {
 
 /// Tells the length of the phase whose levels are held, and ends it.
 fn tell(walk: &mut Walk<'_>) -> Result<(), NoMemory>
-    ensures { OnOk result (Tells walk.old walk.new) }
+    ensures { OnOk result (TellsPhaseLength walk.old walk.new) }
 {
     let most = walk.held.most.min(walk.held.reads.len());
     walk.lengths.push(most as u64 + 1)?;

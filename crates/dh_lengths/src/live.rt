@@ -1,7 +1,7 @@
 //! The first read of each class of which all arms are open.
 
 ghost use Rattle.std.specs.Prelude.{◌≡◌, ℕ, ◌<◌, IfOk, OnOk, None, length};
-ghost use Rattle.dh_lengths.specs.LiveFirsts.{cleared, closed, first_at, first_in, met_read, none_read, opened, FirstsAre};
+ghost use Rattle.dh_lengths.specs.LiveFirsts.{cleared, arm_closed, first_read_at, live_first, met_read, none_read, opened, FirstsAre};
 
 use dh_base::NoMemory;
 use std::alloc::Global;
@@ -21,8 +21,8 @@ pub struct Live {
 /// Forgets the reads of classes.
 #[tactic(auto, using(crate::proofs::LiveTurns::forget_turn))]
 fn forget(firsts: &mut [Option<usize>], classes: &[usize])
-    ensures gone { (class : ℕ) → first_in firsts.new class
-        ≡ cleared classes.now class (first_in firsts.old class) }
+    ensures gone { (class : ℕ) → live_first firsts.new class
+        ≡ cleared classes.now class (live_first firsts.old class) }
     ensures long { length firsts.new ≡ length firsts.old }
 {
     for class in classes {
@@ -35,7 +35,7 @@ fn forget(firsts: &mut [Option<usize>], classes: &[usize])
 
 /// So many classes of which nothing was read.
 fn no_reads(alloc: Global, classes: usize) -> Result<Vec<Option<usize>>, NoMemory>
-    ensures none { IfOk result (λ firsts. (class : ℕ) → first_in firsts.items class ≡ None) }
+    ensures none { IfOk result (λ firsts. (class : ℕ) → live_first firsts.items class ≡ None) }
     ensures long { IfOk result (λ firsts. length firsts.items ≡ classes) }
 {
     let mut firsts = Vec::new(alloc);
@@ -48,7 +48,7 @@ fn no_reads(alloc: Global, classes: usize) -> Result<Vec<Option<usize>>, NoMemor
 impl Live {
     /// Nothing was read of so many classes, and no arm is open.
     pub fn new(alloc: Global, classes: usize) -> Result<Live, NoMemory>
-        ensures none { IfOk result (λ live. (class : ℕ) → first_at live class
+        ensures none { IfOk result (λ live. (class : ℕ) → first_read_at live class
             ≡ none_read class) }
         ensures long { IfOk result (λ live. length live.firsts.items ≡ classes) }
     {
@@ -64,7 +64,7 @@ impl Live {
     /// may be shared itself.
     pub fn read(&mut self, class: usize, number: usize) -> Result<Option<usize>, NoMemory>
         requires within { class < length self.old.firsts.items }
-        ensures shared { IfOk result (λ shared. shared ≡ (first_at self.old class).now) }
+        ensures shared { IfOk result (λ shared. shared ≡ (first_read_at self.old class).now) }
         ensures met { OnOk result (FirstsAre self.old self.new
             (λ other f. met_read class number other f)) }
         ensures long { OnOk result (length self.new.firsts.items ≡ length self.old.firsts.items) }
@@ -88,7 +88,7 @@ impl Live {
 
     /// The innermost open arm ends, and what was read in it is shared no more.
     pub fn end(&mut self)
-        ensures closed { FirstsAre self.old self.new (λ class f. closed f) }
+        ensures closed { FirstsAre self.old self.new (λ class f. arm_closed f) }
         ensures long { length self.new.firsts.items ≡ length self.old.firsts.items }
     {
         let Some(log) = self.outer.pop() else {

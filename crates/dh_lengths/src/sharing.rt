@@ -1,17 +1,17 @@
 //! Which earlier read each read shares, from the events of a body.
 
 ghost use Rattle.std.specs.Prelude.{◌≡◌, IfOk, OnOk};
-ghost use Rattle.dh_tree.specs.Seen.{action_seen, form_seen};
-ghost use Rattle.dh_events.specs.Accesses.{entity_in};
+ghost use Rattle.dh_tree.specs.Seen.{action_seen};
 ghost use Rattle.dh_events.specs.Classes.{ExtendsKeys};
 ghost use Rattle.dh_ports.specs.Scanned as scanned;
 ghost use Rattle.dh_lengths.specs.LiveFirsts.{none_read, shares_of};
-ghost use Rattle.dh_lengths.specs.SharedReads.{AreMet, AreWithin, FindsShares, IsMet, IsKeyMet, TellsSharesIn};
+ghost use Rattle.dh_lengths.specs.SharedReads.{AreMet, AreWithinClasses, FindsShares, IsMet, IsKeyMet, TellsSharesIn};
 
 use crate::live::Live;
 use dh_base::NoMemory;
 use dh_events::{Classes, Event, Key, Notes, note_body, note_stages};
-use dh_tree::{Command, Expr, ExprForm};
+use dh_ports::read_key;
+use dh_tree::Command;
 use std::alloc::Global;
 
 /// What an event is for the sharing of reads.
@@ -30,60 +30,6 @@ pub enum Met {
     Ends,
     /// Nothing.
     Other,
-}
-
-/// What an access names.
-#[tactic(auto, using(dh_tree::proofs::SeenTerms::terms_are))]
-fn entity_of(access: &Expr) -> Option<u32>
-    ensures { result ≡ entity_in (form_seen access.now.form) }
-{
-    match &access.form {
-        ExprForm::Access { of, .. } | ExprForm::Physical { of, .. } => of.entity,
-        ExprForm::Number { .. }
-        | ExprForm::Truth { .. }
-        | ExprForm::Variable { .. }
-        | ExprForm::Binary { .. }
-        | ExprForm::Cast { .. } => None,
-    }
-}
-
-/// The key of an event that is a read, where its names stand for something: it is that of reads that are
-/// equal, in one phase, and have no assignment between them to a variable in their indices.
-fn read_key(event: Event<'_>) -> Option<Key>
-    ensures { result ≡ scanned.read_key event.entry }
-{
-    match event {
-        Event::Touch {
-            access,
-            writes,
-            phase,
-            element,
-            newest,
-            ..
-        } => {
-            if writes {
-                return None;
-            }
-            match entity_of(access) {
-                Some(entity) => match element {
-                    Some(element) => Some(Key {
-                        phase,
-                        entity,
-                        element,
-                        newest,
-                    }),
-                    None => None,
-                },
-                None => None,
-            }
-        }
-        Event::Assigned { .. }
-        | Event::ArmBegins
-        | Event::ArmEnds
-        | Event::Begins
-        | Event::Next
-        | Event::Ends => None,
-    }
 }
 
 /// What an access with a key is for the sharing of reads.
@@ -126,7 +72,7 @@ fn all_met(alloc: Global, classes: &mut Classes, events: &[Event<'_>]) -> Result
 
 /// Of each access among what is met, in order, the earlier read that it shares, if it shares one.
 fn shares_met(alloc: Global, classes: usize, met: &[Met]) -> Result<Vec<Option<usize>>, NoMemory>
-    requires within { AreWithin classes met.now }
+    requires within { AreWithinClasses classes met.now }
     ensures { IfOk result (λ shares. shares.items ≡ shares_of none_read 0 met.now) }
 {
     let mut live = Live::new(alloc, classes)?;

@@ -2,7 +2,7 @@
 
 ghost use Rattle.std.specs.Prelude.{◌≡◌, drop, IfOk, OnOk};
 ghost use Rattle.dh_events.specs.Tables.{table_at};
-ghost use Rattle.dh_lengths.specs.Undone.{marks_now, redone, undone, JoinsLevels};
+ghost use Rattle.dh_lengths.specs.Undone.{marks_with_levels, redone, undone_levels, JoinsLevels};
 
 use dh_base::NoMemory;
 use dh_events::{get_number, set_number};
@@ -27,7 +27,7 @@ pub fn since(log: &[Mark], mark: usize) -> &[Mark]
 /// Puts levels back to what marks say, the last of them first.
 pub fn undo(variables: &mut Vec<usize>, log: &[Mark]) -> Result<(), NoMemory>
     ensures { OnOk result (table_at variables.new.items
-        ≡ undone log.now (table_at variables.old.items)) }
+        ≡ undone_levels log.now (table_at variables.old.items)) }
 {
     for i in (0..log.len()).rev() {
         let mark = log[i];
@@ -49,7 +49,7 @@ pub fn redo(variables: &mut Vec<usize>, marks: &[Mark]) -> Result<(), NoMemory>
 
 /// The levels that the variables of marks have now.
 pub fn marks_of(alloc: Global, variables: &[usize], log: &[Mark]) -> Result<Vec<Mark>, NoMemory>
-    ensures { IfOk result (λ marks. marks.items ≡ marks_now (table_at variables.now) log.now) }
+    ensures { IfOk result (λ marks. marks.items ≡ marks_with_levels (table_at variables.now) log.now) }
 {
     let mut marks = Vec::new(alloc);
     for mark in log {

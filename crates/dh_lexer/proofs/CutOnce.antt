@@ -5,7 +5,7 @@ use Rattle.std.proofs.Common.{◌≡◌, ℕ, List, [], ◌∷◌, ◌++◌, len
 use Rattle.std.proofs.Math.Seq.{take-append_seam, drop-append_seam}
 use Rattle.dh_base.specs.declared.places.Place.{Place}
 use Rattle.dh_lexer.specs.Pieces.{Piece, gap, token, bytes, Stands, Cuts}
-use Rattle.dh_lexer.specs.LexedText.{all_bytes, tokens_among, token_placed, place_after, HasTokens, IsBreach}
+use Rattle.dh_lexer.specs.LexedText.{all_bytes, tokens_among, token_placed, place_after_bytes, HasTokens, IsBreach}
 use Rattle.dh_lexer.specs.FrontPiece.{front_of}
 use Rattle.dh_lexer.proofs.FrontFound.{piece, front_is, front_found, front_of_nil}
 use Rattle.dh_lexer.specs.declared.fronts.Front.{Front}
@@ -55,12 +55,12 @@ one_cut text (p ∷ ps) (q ∷ qs) r s a b (m, (e, (x, c))) (n, (f, (y, d))) =
 pub one_list : (text : List ℕ) (ts us : List Token) → HasTokens text ts → HasTokens text us → ts ≡ us
 one_list text ts us h k =
     let same = one_cut text h.pieces k.pieces [] [] stop_nil stop_nil h.cut k.cut in
-    h.are ∙ (ap (λ ps. tokens_among [] ps ++ token_placed kind.End (place_after text) ∷ []) same.0 ∙ sym k.are)
+    h.are ∙ (ap (λ ps. tokens_among [] ps ++ token_placed kind.End (place_after_bytes text) ∷ []) same.0 ∙ sym k.are)
 
 pub one_breach : (text : List ℕ) (p q : Place) → IsBreach text p → IsBreach text q → p ≡ q
 one_breach text p q h k =
     let same = one_cut text h.pieces k.pieces h.rest k.rest h.none k.none h.cut k.cut in
-    h.is ∙ (ap (λ ps. place_after (all_bytes ps)) same.0 ∙ sym k.is)
+    h.is ∙ (ap (λ ps. place_after_bytes (all_bytes ps)) same.0 ∙ sym k.is)
 
 pub not_both : (text : List ℕ) (ts : List Token) (p : Place) → HasTokens text ts → IsBreach text p → ⊥
 not_both text ts p h k =

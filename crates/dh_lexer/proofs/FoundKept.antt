@@ -2,7 +2,7 @@
 use Rattle.std.proofs.Common.{◌≡◌, ℕ, ◌+◌, ◌<◌, ◌≤◌, ◌==◌, true, false, List, [], ◌++◌, length, get_or, take, drop, refl, ap, sym, ◌∙◌, subst, arith, Option, Some, None, option_map, append-nil}
 use Rattle.dh_base.specs.declared.places.Place.{Place}
 use Rattle.dh_lexer.specs.FrontPiece.{is_space, front_of, front_token, token_of, IsNamedToken}
-use Rattle.dh_lexer.specs.LexedText.{kept, place_from, length_found, with_found, IsKept}
+use Rattle.dh_lexer.specs.LexedText.{kept, place_from, length_found, with_found, TokenIsKept}
 use Rattle.dh_lexer.proofs.FrontFound.{FoundFront, front_right}
 use Rattle.dh_lexer.proofs.LexedSoFar.{LexedSoFar, lexed_more, length_at}
 use Rattle.dh_lexer.specs.declared.fronts.Front.{Front}
@@ -34,13 +34,13 @@ gap_kept tokens place = sym (append-nil tokens)
 token_kept : (k : TokenKind) (place : Place) → kept (front.Token k) place ≡ [] → ⊥
 token_kept k place e = cc
 
-pub some_kept : (found : Option (Front × ℕ)) (place : Place) (x : Front) (n : ℕ) → Some (x, n) ≡ found → (kept x place ≡ [] → ⊥) → IsKept found place
-some_kept found place x n e h = subst (λ (o : Option (Front × ℕ)). IsKept o place) e h
+pub some_kept : (found : Option (Front × ℕ)) (place : Place) (x : Front) (n : ℕ) → Some (x, n) ≡ found → (kept x place ≡ [] → ⊥) → TokenIsKept found place
+some_kept found place x n e h = subst (λ (o : Option (Front × ℕ)). TokenIsKept o place) e h
 
-pub some_token : (found : Option (Front × ℕ)) (place : Place) (k : TokenKind) (n : ℕ) → Some (front.Token k, n) ≡ found → IsKept found place
+pub some_token : (found : Option (Front × ℕ)) (place : Place) (k : TokenKind) (n : ℕ) → Some (front.Token k, n) ≡ found → TokenIsKept found place
 some_token found place k n e = some_kept found place (front.Token k) n e (token_kept k place)
 
-pub named_token : (found : Option (TokenKind × ℕ)) (place : Place) → IsNamedToken found → IsKept (option_map front_token found) place
+pub named_token : (found : Option (TokenKind × ℕ)) (place : Place) → IsNamedToken found → TokenIsKept (option_map front_token found) place
 named_token (Some t) place h = token_kept t.0 place
 named_token None place h = absurd h
 

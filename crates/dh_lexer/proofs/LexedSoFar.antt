@@ -6,7 +6,7 @@ use Rattle.std.proofs.lemmas.List.{length-take-le}
 use Rattle.std.proofs.lemmas.Bool.{cond_both}
 use Rattle.dh_base.specs.declared.places.Place.{Place}
 use Rattle.dh_lexer.specs.Pieces.{Piece, gap, token, bytes, Stands, Cuts}
-use Rattle.dh_lexer.specs.LexedText.{place_at, next_place, place_from, place_after, token_placed, kept, all_bytes, tokens_among, HasTokens, IsBreach}
+use Rattle.dh_lexer.specs.LexedText.{text_place, next_place, place_from, place_after_bytes, token_placed, kept, all_bytes, tokens_among, HasTokens, IsBreach}
 use Rattle.dh_lexer.specs.FrontPiece.{front_of}
 use Rattle.dh_lexer.proofs.FrontFound.{piece, Fronts, FoundFront, front_right}
 use Rattle.dh_lexer.proofs.CutOnce.{stop_from}
@@ -48,14 +48,14 @@ bytes_more [] p = append-nil (bytes p)
 bytes_more (q ∷ ps) p = ap (λ w. bytes q ++ w) (bytes_more ps p) ∙ sym (append_assoc (bytes q) (all_bytes ps) (bytes p))
 
 among_more : (before : List ℕ) (ps : List Piece) (x : Front) (w : List ℕ)
-    → tokens_among before (ps ++ piece x w ∷ []) ≡ tokens_among before ps ++ kept x (place_after (before ++ all_bytes ps))
+    → tokens_among before (ps ++ piece x w ∷ []) ≡ tokens_among before ps ++ kept x (place_after_bytes (before ++ all_bytes ps))
 among_more before [] front.Gap w = refl
-among_more before [] (front.Token k) w = ap (λ l. token_placed k (place_after l) ∷ []) (sym (append-nil before))
+among_more before [] (front.Token k) w = ap (λ l. token_placed k (place_after_bytes l) ∷ []) (sym (append-nil before))
 among_more before (gap v ∷ ps) x w =
-    among_more (before ++ v) ps x w ∙ ap (λ l. tokens_among (before ++ v) ps ++ kept x (place_after l)) (append_assoc before v (all_bytes ps))
+    among_more (before ++ v) ps x w ∙ ap (λ l. tokens_among (before ++ v) ps ++ kept x (place_after_bytes l)) (append_assoc before v (all_bytes ps))
 among_more before (token j v ∷ ps) x w =
-    ap (λ l. token_placed j (place_after before) ∷ l)
-    (among_more (before ++ v) ps x w ∙ ap (λ l. tokens_among (before ++ v) ps ++ kept x (place_after l)) (append_assoc before v (all_bytes ps)))
+    ap (λ l. token_placed j (place_after_bytes before) ∷ l)
+    (among_more (before ++ v) ps x w ∙ ap (λ l. tokens_among (before ++ v) ps ++ kept x (place_after_bytes l)) (append_assoc before v (all_bytes ps)))
 
 -- how a turn of the lexer's loop begins
 pub record LexedSoFar (text : List ℕ) (tokens : List Token) (place : Place) (at : ℕ) : Type 0 where
@@ -64,9 +64,9 @@ pub record LexedSoFar (text : List ℕ) (tokens : List Token) (place : Place) (a
   pub cut : Cuts text pieces (drop at text)
   pub before : all_bytes pieces ≡ take at text
   pub taken : tokens ≡ tokens_among [] pieces
-  pub stands_at : place ≡ place_after (take at text)
+  pub stands_at : place ≡ place_after_bytes (take at text)
 
-pub lexed_first : (text : List ℕ) → LexedSoFar text [] (place_at 1 1) 0
+pub lexed_first : (text : List ℕ) → LexedSoFar text [] (text_place 1 1) 0
 lexed_first text = record { within = omega arith; pieces = []; cut = refl; before = refl; taken = refl; stands_at = refl }
 
 -- the piece that is found
@@ -81,7 +81,7 @@ length_at text at x n within e =
 pub place_room : (text : List ℕ) (tokens : List Token) (place : Place) (at n : ℕ) → length text ≤ 1048576 → at + n ≤ length text → LexedSoFar text tokens place at
     → (place.line + n < 2 ^ 32) × (place.column + n < 2 ^ 32)
 place_room text tokens place at n small long lexed =
-    let near = place_near (place_at 1 1) (take at text) in
+    let near = place_near (text_place 1 1) (take at text) in
     let first : length (take at text) ≡ at = length-take-le at text lexed.within in
     rw lexed.stands_at (omega (arith, near.line, first, small, long), omega (arith, near.column, first, small, long))
 
@@ -104,9 +104,9 @@ lexed_more text tokens place at x n lexed e =
       before = bytes_more lexed.pieces (piece x (take n (drop at text)))
           ∙ (ap (λ l. l ++ bytes (piece x (take n (drop at text)))) lexed.before ∙ (ap (λ l. take at text ++ l) taken_bytes ∙ sym (take-add at n text)));
       taken = ap (λ ts. ts ++ kept x place) lexed.taken
-          ∙ (ap (λ q. tokens_among [] lexed.pieces ++ kept x q) (lexed.stands_at ∙ ap place_after (sym lexed.before)) ∙ sym (among_more [] lexed.pieces x (take n (drop at text))));
+          ∙ (ap (λ q. tokens_among [] lexed.pieces ++ kept x q) (lexed.stands_at ∙ ap place_after_bytes (sym lexed.before)) ∙ sym (among_more [] lexed.pieces x (take n (drop at text))));
       stands_at = ap (λ q. place_from q (take n (drop at text))) lexed.stands_at
-          ∙ (sym (place_more (place_at 1 1) (take at text) (take n (drop at text))) ∙ ap place_after (sym (take-add at n text)));
+          ∙ (sym (place_more (text_place 1 1) (take at text) (take n (drop at text))) ∙ ap place_after_bytes (sym (take-add at n text)));
     }
 
 -- where nothing is found
@@ -118,7 +118,7 @@ lexed_breach text tokens place at early lexed e = record {
   cut = lexed.cut;
   filled = omega (arith, length-drop at text);
   none = stop_from (drop at text) (sym e);
-  is = lexed.stands_at ∙ ap place_after (sym lexed.before);
+  is = lexed.stands_at ∙ ap place_after_bytes (sym lexed.before);
 }
 
 -- at the end of the text
@@ -139,5 +139,5 @@ lexed_end text tokens place at late lexed =
       pieces = lexed.pieces;
       cut = subst (λ (r : List ℕ). Cuts text lexed.pieces r) (empty_rest (drop at text) none) lexed.cut;
       are = ap (λ ts. ts ++ token_placed kind.End place ∷ []) lexed.taken
-          ∙ ap (λ q. tokens_among [] lexed.pieces ++ token_placed kind.End q ∷ []) (lexed.stands_at ∙ ap place_after (whole at text late));
+          ∙ ap (λ q. tokens_among [] lexed.pieces ++ token_placed kind.End q ∷ []) (lexed.stands_at ∙ ap place_after_bytes (whole at text late));
     }

@@ -9,9 +9,9 @@ use Rattle.std.proofs.lemmas.List.{length-take-le}
 use Rattle.dh_base.specs.declared.places.Place.{Place}
 use Rattle.dh_tree.specs.Names.{IsNameByte}
 use Rattle.dh_lexer.specs.Spellings.{Entry, dashes, long_signs, short_signs}
-use Rattle.dh_lexer.specs.Pieces.{Spells, InLine, IsGap, Stands}
+use Rattle.dh_lexer.specs.Pieces.{SpellsToken, InLine, IsGap, Stands}
 use Rattle.dh_lexer.specs.FrontPiece.{is_in_line, is_space, front_of}
-use Rattle.dh_lexer.specs.LexedText.{place_at, next_place, place_from, length_found}
+use Rattle.dh_lexer.specs.LexedText.{text_place, next_place, place_from, length_found}
 use Rattle.dh_lexer.proofs.Runs.{in_line_tells, spaces_tell}
 use Rattle.dh_lexer.proofs.TableLooks.{listed_pass}
 use Rattle.dh_lexer.proofs.WordsSpelled.{run_names}
@@ -36,7 +36,7 @@ names_in_line : (w : List ℕ) → AllByRecursion IsNameByte w → AllByRecursio
 names_in_line [] names = tt
 names_in_line (b ∷ w) names = (name_in_line b names.0, names_in_line w names.1)
 
-spelled_in_line : (k : TokenKind) (w : List ℕ) → Spells k w → AllByRecursion InLine w
+spelled_in_line : (k : TokenKind) (w : List ℕ) → SpellsToken k w → AllByRecursion InLine w
 spelled_in_line k w (inl (inl l)) = all_in_line w (listed_pass in_a_line dashes w k refl l)
 spelled_in_line k w (inl (inr (inl l))) = all_in_line w (listed_pass in_a_line long_signs w k refl l)
 spelled_in_line k w (inl (inr (inr l))) = all_in_line w (listed_pass in_a_line short_signs w k refl l)
@@ -67,18 +67,18 @@ found_in_line l n e filled no_slash no_feed =
     stands_in_line l f.0 n h.stands filled no_slash no_feed
 
 -- along a line
-along_line : (p : Place) (w : List ℕ) → AllByRecursion InLine w → place_at p.line (p.column + length w) ≡ place_from p w
-along_line p [] all = ap (place_at p.line) (add-zero p.column)
+along_line : (p : Place) (w : List ℕ) → AllByRecursion InLine w → text_place p.line (p.column + length w) ≡ place_from p w
+along_line p [] all = ap (text_place p.line) (add-zero p.column)
 along_line p (b ∷ w) all =
     let other : (b == 10) ≡ false = false_from_ne_true (b == 10) (λ e. all.0 (eqb-true b 10 e)) in
     let far : p.column + length (b ∷ w) ≡ (p.column + 1) + length w = omega arith in
-    rw other (ap (place_at p.line) far ∙ along_line (place_at p.line (p.column + 1)) w all.1)
+    rw other (ap (text_place p.line) far ∙ along_line (text_place p.line (p.column + 1)) w all.1)
 
 pub place_along : (p : Place) (l : List ℕ) (n : ℕ) → n ≡ length_found (front_of l) → 0 < n → n ≤ length l → (get_or l 0 0 ≡ 47 → ⊥) → (get_or l 0 0 ≡ 10 → ⊥)
-    → place_at p.line (p.column + n) ≡ place_from p (take n l)
+    → text_place p.line (p.column + n) ≡ place_from p (take n l)
 place_along p l n e filled within no_slash no_feed =
     let long : length (take n l) ≡ n = length-take-le n l within in
-    ap (λ m. place_at p.line (p.column + m)) (sym long) ∙ along_line p (take n l) (found_in_line l n e filled no_slash no_feed)
+    ap (λ m. text_place p.line (p.column + m)) (sym long) ∙ along_line p (take n l) (found_in_line l n e filled no_slash no_feed)
 
 -- a line feed
 some_length : (n : ℕ) (o : Option (Front × ℕ)) (x : Front) (m : ℕ) → Some (x, m) ≡ o → n ≡ length_found o → n ≡ m

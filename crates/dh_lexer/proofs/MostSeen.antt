@@ -2,7 +2,7 @@
 -- greatest of the rest hold already; an `else if` goes from the rest to those so far.
 use Rattle.std.proofs.Common.{◌≡◌, ℕ, Bool, ◌&&◌, if◌then◌else◌, ◌+◌, ◌<◌, ◌≤◌, List, [], ◌∷◌, length, get_or, drop, max, ap, ◌∙◌, subst, arith}
 use Rattle.std.proofs.lemmas.Bool.{cond_both}
-use Rattle.dh_lexer.specs.Counted.{open_after, most_open, operators_after, most_operators, is_separator, is_operator, is_else, is_if, else_ifs_after}
+use Rattle.dh_lexer.specs.Counted.{open_brackets_after, most_open, operators_after, most_operators, is_separator, is_operator_sign, is_else, is_if, else_ifs_after}
 use Rattle.dh_lexer.specs.declared.tokens.Token.{Token}
 use Rattle.dh_lexer.specs.declared.tokens.TokenKind.{TokenKind}
 use Rattle.dh_lexer.specs.declared.tokens.TokenKind.TheVariants as kind
@@ -19,7 +19,7 @@ operators_least n (t ∷ ts) = omega arith
 max_turn : (most now next rest total raised : ℕ) → max most (max now rest) ≡ total → now ≤ most → next ≤ rest → raised ≡ max next most → max raised rest ≡ total
 max_turn most now next rest total raised e reached least is = omega (arith, e, is)
 
-pub open_one : (n : ℕ) (k : TokenKind) → open_after n k ≤ n + 1
+pub open_one : (n : ℕ) (k : TokenKind) → open_brackets_after n k ≤ n + 1
 open_one n kind.OpenParen = omega arith
 open_one n kind.OpenBracket = omega arith
 open_one n kind.OpenBrace = omega arith
@@ -31,7 +31,7 @@ open_one n _ = omega arith
 pub operators_one : (n : ℕ) (k : TokenKind) → operators_after n k ≤ n + 1
 operators_one n k =
     cond_both (is_separator k) _ _ (λ m. m ≤ n + 1) (λ _. omega arith)
-    (λ _. cond_both (is_operator k) _ _ (λ m. m ≤ n + 1) (λ _. omega arith) (λ _. omega arith))
+    (λ _. cond_both (is_operator_sign k) _ _ (λ m. m ≤ n + 1) (λ _. omega arith) (λ _. omega arith))
 
 -- how a turn begins, and how it ends
 pub record Seen (most now after total index : ℕ) : Type 0 where
@@ -48,12 +48,12 @@ seen_turn most now after rest total index next raised seen e one least is = reco
 }
 
 pub open_turn : (tokens : List Token) (i most now total next raised : ℕ) (t : Token) → i < length tokens → t ≡ get_or tokens i t
-    → Seen most now (most_open now (drop i tokens)) total i → next ≡ open_after now t.kind → raised ≡ max next most
+    → Seen most now (most_open now (drop i tokens)) total i → next ≡ open_brackets_after now t.kind → raised ≡ max next most
     → Seen raised next (most_open next (drop (i + 1) tokens)) total (i + 1)
 open_turn tokens i most now total next raised t early at seen e is =
     let rest = at_item tokens i t early at in
-    rw e (seen_turn most now _ (most_open (open_after now t.kind) (drop (i + 1) tokens)) total i (open_after now t.kind) raised seen (ap (most_open now) rest) (open_one now t.kind)
-    (open_least (open_after now t.kind) (drop (i + 1) tokens)) (is ∙ ap (λ x. max x most) e))
+    rw e (seen_turn most now _ (most_open (open_brackets_after now t.kind) (drop (i + 1) tokens)) total i (open_brackets_after now t.kind) raised seen (ap (most_open now) rest) (open_one now t.kind)
+    (open_least (open_brackets_after now t.kind) (drop (i + 1) tokens)) (is ∙ ap (λ x. max x most) e))
 
 pub operators_turn : (tokens : List Token) (i most now total next raised : ℕ) (t : Token) → i < length tokens → t ≡ get_or tokens i t
     → Seen most now (most_operators now (drop i tokens)) total i → next ≡ operators_after now t.kind → raised ≡ max next most

@@ -12,8 +12,8 @@ use Rattle.std.proofs.lemmas.Bool.Decides.{nat_tests}
 use Rattle.std.proofs.lemmas.Option.{cond_some}
 use Rattle.std.proofs.lemmas.Str.Parse.{without_leading_plus_none}
 use Rattle.dh_tree.specs.Names.{IsNameByte}
-use Rattle.dh_lexer.specs.Pieces.{Writes}
-use Rattle.dh_lexer.specs.FrontPiece.{is_numeral, digits_number, number_of}
+use Rattle.dh_lexer.specs.Pieces.{WritesNumber}
+use Rattle.dh_lexer.specs.FrontPiece.{is_numeral, digits_number, scanned_number}
 
 both_so : (a b : Bool) → a ≡ true → b ≡ true → (a && b) ≡ true
 both_so a b e f = rw (e, f) refl
@@ -69,7 +69,7 @@ pub digits_read : {E : Type 0} (radix : ℕ) (w : List ℕ) (r : Result ℕ E) �
 digits_read {E} radix w r names h =
     read_so radix w r (subst (λ (l : List ℕ). OkIff r (IsNumeral radix l × (digits_value radix l < 2 ^ 64)) (digits_value radix l)) (without_leading_plus_none w (no_plus w names)) h)
 
--- what `number_of` finds, the run writes
+-- what `scanned_number` finds, the run writes
 zero_alone : (b n : ℕ) → ((b == 48) && not (n == 1)) ≡ false → b ≡ 48 → n ≡ 1
 zero_alone b n test zero = grind (arith, nat_tests)
 
@@ -81,7 +81,7 @@ hex_is (a ∷ (b ∷ ds)) e f = rw (e, f) refl
 -- a number that is found was written, in this form
 abbrev FoundNumber : List ℕ → Option ℕ → Type 0
 FoundNumber w None = Unit {0}
-FoundNumber w (Some n) = Writes n w
+FoundNumber w (Some n) = WritesNumber n w
 
 hex_found : (w : List ℕ) → get_or w 0 0 ≡ 48 → get_or w 1 0 ≡ 120 → (o : Option ℕ) → digits_number 16 (drop 2 w) ≡ o → FoundNumber w o
 hex_found w e f None h = tt
@@ -95,8 +95,8 @@ decimal_found w alone (Some n) h =
     let s = digits_found 10 w n h in
     (subst (λ (m : ℕ). m < 2 ^ 64) s.1 s.0.small, inl (record { digits = s.0.numeral; alone = alone; is = s.1 }))
 
-number_right : (w : List ℕ) → FoundNumber w (number_of w)
-unfolding number_of
+number_right : (w : List ℕ) → FoundNumber w (scanned_number w)
+unfolding scanned_number
 number_right w =
     cond_both ((get_or w 0 0 == 48) && (get_or w 1 0 == 120)) _ _ (FoundNumber w)
     (λ e. hex_found w (eqb-true _ 48 (first_so (get_or w 0 0 == 48) _ e)) (eqb-true _ 120 (second_so (get_or w 0 0 == 48) _ e)) _ refl)
@@ -104,15 +104,15 @@ number_right w =
     (λ _. tt)
     (λ e. decimal_found w (zero_alone (get_or w 0 0) (length w) e) _ refl))
 
-pub number_found : (w : List ℕ) (n : ℕ) → number_of w ≡ Some n → Writes n w
+pub number_found : (w : List ℕ) (n : ℕ) → scanned_number w ≡ Some n → WritesNumber n w
 number_found w n e = subst (FoundNumber w) e (number_right w)
 
 -- what a run writes is found
 no_hex : (b c : ℕ) → digit_value c < 10 → ((b == 48) && (c == 120)) ≡ false
 no_hex b c digit = grind (arith, nat_tests)
 
-decimal_written : (w : List ℕ) → IsSmall 10 w → (get_or w 0 0 ≡ 48 → length w ≡ 1) → number_of w ≡ Some (digits_value 10 w)
-unfolding number_of
+decimal_written : (w : List ℕ) → IsSmall 10 w → (get_or w 0 0 ≡ 48 → length w ≡ 1) → scanned_number w ≡ Some (digits_value 10 w)
+unfolding scanned_number
 decimal_written [] s alone = absurd (omega (arith, s.numeral.0))
 decimal_written (b ∷ []) s alone =
     let first : ((b == 48) && (0 == 120)) ≡ false = grind (arith, nat_tests) in
@@ -122,15 +122,15 @@ decimal_written (b ∷ (c ∷ ds)) s alone =
     let other : (b == 48) ≡ false = ne_eqb b 48 (λ e. let n = alone e in omega (arith, n)) in
     rw (first, other) (digits_written 10 (b ∷ (c ∷ ds)) s)
 
-hex_written : (ds : List ℕ) → IsSmall 16 ds → number_of (codes "0x" ++ ds) ≡ Some (digits_value 16 ds)
-unfolding number_of
+hex_written : (ds : List ℕ) → IsSmall 16 ds → scanned_number (codes "0x" ++ ds) ≡ Some (digits_value 16 ds)
+unfolding scanned_number
 hex_written ds s = digits_written 16 ds s
 
-pub number_written : (w : List ℕ) (n : ℕ) → Writes n w → number_of w ≡ Some n
+pub number_written : (w : List ℕ) (n : ℕ) → WritesNumber n w → scanned_number w ≡ Some n
 number_written w n (small, inl d) =
     decimal_written w (record { numeral = d.digits; small = subst (λ (m : ℕ). m < 2 ^ 64) (sym d.is) small }) d.alone ∙ ap Some d.is
 number_written w n (small, inr h) =
-    ap number_of h.spelled ∙ (hex_written h.digits (record { numeral = h.numeral; small = subst (λ (m : ℕ). m < 2 ^ 64) (sym h.is) small }) ∙ ap Some h.is)
+    ap scanned_number h.spelled ∙ (hex_written h.digits (record { numeral = h.numeral; small = subst (λ (m : ℕ). m < 2 ^ 64) (sym h.is) small }) ∙ ap Some h.is)
 
 -- a number begins with a digit, and all its bytes are letters, digits or `_`
 digit_name : (c : ℕ) → digit_value c < 16 → IsNameByte c
@@ -162,11 +162,11 @@ pub record IsFilled (w : List ℕ) : Type 0 where
 zero_x : (ds : List ℕ) → AllByRecursion IsNameByte ds → AllByRecursion IsNameByte (codes "0x" ++ ds)
 zero_x ds names = (digit_name 48 (omega arith), (inl (inr (inl (omega arith, omega arith))), names))
 
-pub number_names : (w : List ℕ) (n : ℕ) → Writes n w → IsFilled w
+pub number_names : (w : List ℕ) (n : ℕ) → WritesNumber n w → IsFilled w
 number_names w n (small, inl d) = record { some = d.digits.0; names = decimal_names w d.digits.1 }
 number_names w n (small, inr h) =
     rw h.spelled (record { some = omega arith; names = zero_x h.digits (hex_names h.digits h.numeral.1) })
 
-pub number_begins : (w : List ℕ) (n : ℕ) → Writes n w → is_ascii_digit (get_or w 0 0) ≡ true
+pub number_begins : (w : List ℕ) (n : ℕ) → WritesNumber n w → is_ascii_digit (get_or w 0 0) ≡ true
 number_begins w n (small, inl d) = decimal_begins w d.digits
 number_begins w n (small, inr h) = rw h.spelled refl

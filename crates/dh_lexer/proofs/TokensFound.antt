@@ -10,7 +10,7 @@ use Rattle.std.proofs.lemmas.Bool.{cond_both, false≢true}
 use Rattle.std.proofs.lemmas.Bool.Decides.{nat_tests}
 use Rattle.std.proofs.lemmas.List.Sums.{prefix_len-le-length}
 use Rattle.dh_tree.specs.Names.{IsNameByte}
-use Rattle.dh_lexer.specs.Pieces.{IsSign, IsRun, Spells, BeginsWithout, BeginsComment, IsLongest}
+use Rattle.dh_lexer.specs.Pieces.{IsSign, IsRun, SpellsToken, BeginsWithout, BeginsComment, IsLongest}
 use Rattle.dh_lexer.specs.FrontPiece.{is_name_byte, is_space, run_len, run_of, token_of}
 use Rattle.dh_lexer.proofs.Runs.{name_bytes_tell, run_is, run_stops, run_long, run_some, run_ready}
 use Rattle.dh_lexer.proofs.Numerals.{IsFilled}
@@ -38,7 +38,7 @@ run_no_sign w j k r s = false≢true (sym (front_of w (sign_front k w s).some (s
     front_of w filled e = sign_no_run w [] filled e
 
 -- one spelling is that of one token
-pub one_kind : (w : List ℕ) (j k : TokenKind) → Spells j w → Spells k w → j ≡ k
+pub one_kind : (w : List ℕ) (j k : TokenKind) → SpellsToken j w → SpellsToken k w → j ≡ k
 one_kind w j k (inl s) (inl t) = one_sign w j k s t
 one_kind w j k (inl s) (inr r) = absurd (run_no_sign w k j r s)
 one_kind w j k (inr r) (inl s) = absurd (run_no_sign w j k r s)
@@ -46,7 +46,7 @@ one_kind w j k (inr r) (inr t) = some_same j k (sym (run_is_found j w r) ∙ run
 
 -- what is found
 pub record Starts (l : List ℕ) (k : TokenKind) (n : ℕ) : Type 0 where
-  pub spelled : Spells k (take n l)
+  pub spelled : SpellsToken k (take n l)
   pub filled : 0 < n
   pub within : n ≤ length l
   pub apart : (m : ℕ) → k ≡ kind.Number m → BeginsWithout IsNameByte (drop n l)
@@ -86,7 +86,7 @@ sign_bounds : (n : ℕ) (o : Option (TokenKind × ℕ)) → Covers n o → Bound
 sign_bounds n None h = tt
 sign_bounds n (Some p) h = h
 
-pub token_bounds : (k : TokenKind) (w more : List ℕ) → Spells k w → Bounds (length w) (token_of (w ++ more))
+pub token_bounds : (k : TokenKind) (w more : List ℕ) → SpellsToken k w → Bounds (length w) (token_of (w ++ more))
 unfolding token_of
 token_bounds k w more (inl s) =
     let front = sign_front k w s in
@@ -121,7 +121,7 @@ run_none k w more r apart e =
     found_none : (k : TokenKind) → Some k ≡ None → ⊥
     found_none k e = cc
 
-pub token_none : (k : TokenKind) (w more : List ℕ) → Spells k w → ((n : ℕ) → k ≡ kind.Number n → BeginsWithout IsNameByte more)
+pub token_none : (k : TokenKind) (w more : List ℕ) → SpellsToken k w → ((n : ℕ) → k ≡ kind.Number n → BeginsWithout IsNameByte more)
     → token_of (w ++ more) ≡ None → ⊥
 unfolding token_of
 token_none k w more (inl s) apart e =
@@ -137,7 +137,7 @@ found_by k w more h None e right bounds = absurd (token_none k w more h.spelled 
 found_by k w more h (Some p) e right bounds =
     let upper = h.longest p.0 (take p.1 (w ++ more)) (drop p.1 (w ++ more)) right.spelled (take-append-drop p.1 (w ++ more)) in
     let n : p.1 ≡ length w = omega (arith, upper, bounds, length-take-le p.1 (w ++ more) right.within) in
-    let spelled : Spells p.0 w = subst (λ (v : List ℕ). Spells p.0 v) (ap (λ m. take m (w ++ more)) n ∙ take-append_seam w more) right.spelled in
+    let spelled : SpellsToken p.0 w = subst (λ (v : List ℕ). SpellsToken p.0 v) (ap (λ m. take m (w ++ more)) n ∙ take-append_seam w more) right.spelled in
     pair_is p k (length w) (one_kind w p.0 k spelled h.spelled) n
   where
     pair_is : (p : TokenKind × ℕ) (k : TokenKind) (n : ℕ) → p.0 ≡ k → p.1 ≡ n → Some p ≡ Some (k, n)
@@ -147,7 +147,7 @@ filled_right : (l : List ℕ) → 0 < length l → Right l (token_of l)
 filled_right [] filled = absurd (omega (arith, filled))
 filled_right (b ∷ l) filled = token_right b l
 
-pub spelled_some : (k : TokenKind) (w : List ℕ) → Spells k w → 0 < length w
+pub spelled_some : (k : TokenKind) (w : List ℕ) → SpellsToken k w → 0 < length w
 spelled_some k w (inl s) = (sign_front k w s).some
 spelled_some k w (inr r) = (run_names k w r).some
 
@@ -175,13 +175,13 @@ token_stands l k n starts e plain = record {
         let same : p ≡ (k, n) = ap (λ (o : Option (TokenKind × ℕ)). unwrap_or o p) e in
         let long : p.1 ≡ n = ap (λ (x : TokenKind × ℕ). x.1) same in omega (arith, long, h)
 
-    bounded : (j : TokenKind) (v more : List ℕ) → Spells j v → v ++ more ≡ l → length v ≤ length (take n l)
+    bounded : (j : TokenKind) (v more : List ℕ) → SpellsToken j v → v ++ more ≡ l → length v ≤ length (take n l)
     bounded j v more spells is =
         let h = bound_of (length v) _ (ap token_of is ∙ e) (token_bounds j v more spells) in
         omega (arith, h, length-take-le n l starts.within)
 
 -- no token begins with a space
-pub token_no_space : (k : TokenKind) (w more : List ℕ) → Spells k w → is_space (get_or (w ++ more) 0 0) ≡ false
+pub token_no_space : (k : TokenKind) (w more : List ℕ) → SpellsToken k w → is_space (get_or (w ++ more) 0 0) ≡ false
 token_no_space k w more (inl s) = sign_case w more (sign_front k w s).some (sign_front k w s).no_space
   where
     sign_case : (w more : List ℕ) → 0 < length w → is_space (get_or w 0 0) ≡ false → is_space (get_or (w ++ more) 0 0) ≡ false

@@ -7,8 +7,8 @@ use Rattle.std.proofs.lemmas.Bool.{false≢true}
 use Rattle.dh_tree.specs.Names.{IsName}
 use Rattle.dh_base.specs.declared.places.Place.{Place}
 use Rattle.dh_lexer.specs.Spellings.{Entry, Lists, words, dashes, long_signs, short_signs}
-use Rattle.dh_lexer.specs.Pieces.{Spells, Piece, gap, token, Cuts}
-use Rattle.dh_lexer.specs.LexedText.{token_placed, place_after, tokens_among, HasTokens, IsSoundToken, AreEnded, AreReady}
+use Rattle.dh_lexer.specs.Pieces.{SpellsToken, Piece, gap, token, Cuts}
+use Rattle.dh_lexer.specs.LexedText.{token_placed, place_after_bytes, tokens_among, HasTokens, IsSoundToken, AreEnded, AreReadyTokens}
 use Rattle.dh_lexer.proofs.TableLooks.{listed_pass}
 use Rattle.dh_lexer.proofs.TokensFound.{spelled_some}
 use Rattle.dh_lexer.specs.declared.tokens.Token.{Token}
@@ -46,7 +46,7 @@ name_inner n name = record { going = λ e. absurd cc; sound = name }
 number_inner : (n : ℕ) → n < 2 ^ 64 → IsInner (kind.Number n)
 number_inner n small = record { going = λ e. absurd cc; sound = small }
 
-spelled_inner : (k : TokenKind) (w : List ℕ) → Spells k w → IsInner k
+spelled_inner : (k : TokenKind) (w : List ℕ) → SpellsToken k w → IsInner k
 spelled_inner k w (inl (inl l)) = listed_inner dashes w k refl l
 spelled_inner k w (inl (inr (inl l))) = listed_inner long_signs w k refl l
 spelled_inner k w (inl (inr (inr l))) = listed_inner short_signs w k refl l
@@ -62,7 +62,7 @@ are_ended : (before text : List ℕ) (ps : List Piece) (r : List ℕ) (place : P
 are_ended before text [] r place c = refl
 are_ended before text (gap w ∷ ps) r place (more, (is, (stands, c))) = are_ended (before ++ w) more ps r place c
 are_ended before text (token k w ∷ ps) r place (more, (is, (stands, c))) =
-    ended_more (token_placed k (place_after before)) _ (spelled_inner k w stands.spelled) (are_ended (before ++ w) more ps r place c)
+    ended_more (token_placed k (place_after_bytes before)) _ (spelled_inner k w stands.spelled) (are_ended (before ++ w) more ps r place c)
 
 are_few : (before text : List ℕ) (ps : List Piece) (r : List ℕ) → Cuts text ps r → length (tokens_among before ps) ≤ length text
 are_few before text [] r c = omega arith
@@ -75,9 +75,9 @@ are_few before text (token k w ∷ ps) r (more, (is, (stands, c))) =
     let long : length text ≡ length w + length more = ap (λ (l : List ℕ). length l) is ∙ length-append w more in
     omega (arith, rest, long, spelled_some k w stands.spelled)
 
-pub are_ready : (text : List ℕ) (tokens : List Token) → HasTokens text tokens → AreReady text tokens
+pub are_ready : (text : List ℕ) (tokens : List Token) → HasTokens text tokens → AreReadyTokens text tokens
 are_ready text tokens h =
     rw h.are (record {
-      few = let n = are_few [] text h.pieces [] h.cut in omega (arith, n, length-append (tokens_among [] h.pieces) (token_placed kind.End (place_after text) ∷ []));
-      ended = are_ended [] text h.pieces [] (place_after text) h.cut;
+      few = let n = are_few [] text h.pieces [] h.cut in omega (arith, n, length-append (tokens_among [] h.pieces) (token_placed kind.End (place_after_bytes text) ∷ []));
+      ended = are_ended [] text h.pieces [] (place_after_bytes text) h.cut;
     })

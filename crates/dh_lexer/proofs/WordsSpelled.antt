@@ -9,7 +9,7 @@ use Rattle.std.proofs.lemmas.Bool.Decides.{nat_tests}
 use Rattle.dh_tree.specs.Names.{IsNameByte, IsLetter, IsIdentifier, IsName, reserved}
 use Rattle.dh_lexer.specs.Spellings.{Entry, Lists, words}
 use Rattle.dh_lexer.specs.Pieces.{IsRun}
-use Rattle.dh_lexer.specs.FrontPiece.{is_name_byte, look_up, either, kept_word, word_kind, number_of, run_of}
+use Rattle.dh_lexer.specs.FrontPiece.{is_name_byte, look_up, either, kept_word, word_kind, scanned_number, run_of}
 use Rattle.dh_lexer.proofs.Runs.{name_bytes_tell}
 use Rattle.dh_lexer.proofs.Numerals.{IsFilled, number_found, number_written, number_names, number_begins}
 use Rattle.dh_lexer.proofs.TableLooks.{look_lists, is_distinct, listed_looks, listed_pass, spellings, look_none_spelled, listed_contained}
@@ -125,7 +125,7 @@ kept_or_name w word None e =
       },
     ))
 
-number_or_none : (w : List ℕ) (o : Option ℕ) → number_of w ≡ o → FoundRun w (option_map kind.Number o)
+number_or_none : (w : List ℕ) (o : Option ℕ) → scanned_number w ≡ o → FoundRun w (option_map kind.Number o)
 number_or_none w None e = tt
 number_or_none w (Some n) e = inr (inr (n, (refl, number_found w n e)))
 

@@ -71,18 +71,18 @@ unfoldable pub digits_number : ℕ → List ℕ → Option ℕ
 digits_number radix ds = if is_numeral radix ds then Some (digits_value radix ds) else None
 
 -- the number that begins with a digit
-unfoldable pub number_of : List ℕ → Option ℕ
-number_of w =
+unfoldable pub scanned_number : List ℕ → Option ℕ
+scanned_number w =
     if (slice_index w 0 == 48) && (slice_index w 1 == 120) then digits_number 16 (drop 2 w) else
     (if (slice_index w 0 == 48) && not (length w == 1) then None else digits_number 10 w)
 
 -- the token that is a whole run of letters, digits and `_`
 unfoldable pub run_of : List ℕ → Option TokenKind
-run_of w = if is_ascii_digit (slice_index w 0) then option_map kind.Number (number_of w) else word_kind w
+run_of w = if is_ascii_digit (slice_index w 0) then option_map kind.Number (scanned_number w) else word_kind w
 
 -- a token of so many bytes
-abbrev pub found : TokenKind → ℕ → Option (TokenKind × ℕ)
-found k n = Some (k, n)
+abbrev pub found_token : TokenKind → ℕ → Option (TokenKind × ℕ)
+found_token k n = Some (k, n)
 
 -- the sign of two bytes
 unfoldable pub long_sign : ℕ → ℕ → Option TokenKind
@@ -95,7 +95,7 @@ short_sign b = look_up short_signs (b ∷ [])
 -- the longest sign that begins with the byte b, and its length, where c and d follow (0 past the end)
 unfoldable pub sign : ℕ → ℕ → ℕ → Option (TokenKind × ℕ)
 sign b c d =
-    if (b == 45) && ((c == 45) && (d == 45)) then found kind.Dashes 3 else
+    if (b == 45) && ((c == 45) && (d == 45)) then found_token kind.Dashes 3 else
     either (option_map (λ k. (k, 2)) (long_sign b c)) (option_map (λ k. (k, 1)) (short_sign b))
 
 -- the longest token that the text begins with, and its length
@@ -136,4 +136,4 @@ IsNamedToken None = ⊥
 
 -- what is found is answered, and memory is wanting only where what is found takes some
 abbrev pub AnswersFound : {A E : Type 0} → (A → Type 0) → A → Result A E → Type 0
-AnswersFound TakesMemory found result = MatchResult result (λ o. o ≡ found) (λ _. TakesMemory found)
+AnswersFound TakesMemory found_token result = MatchResult result (λ o. o ≡ found_token) (λ _. TakesMemory found_token)

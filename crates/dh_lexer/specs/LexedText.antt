@@ -15,12 +15,12 @@ use Rattle.dh_lexer.specs.FrontPiece.{front_of}
 use Rattle.dh_lexer.specs.Pieces.{Piece, gap, token, bytes, Stands, Cuts}
 
 -- a place
-abbrev pub place_at : ℕ → ℕ → Place
-place_at line column = record { line = line; column = column }
+abbrev pub text_place : ℕ → ℕ → Place
+text_place line column = record { line = line; column = column }
 
 -- the place after a byte that stands here: a line ends with a line feed
 abbrev pub next_place : Place → ℕ → Place
-next_place place b = if b == 10 then place_at (place.line + 1) 1 else place_at place.line (place.column + 1)
+next_place place b = if b == 10 then text_place (place.line + 1) 1 else text_place place.line (place.column + 1)
 
 -- the place after bytes that begin here
 abbrev pub place_from : Place → List ℕ → Place
@@ -28,8 +28,8 @@ place_from place [] = place
 place_from place (b ∷ bs) = place_from (next_place place b) bs
 
 -- where a text goes on after these bytes
-abbrev pub place_after : List ℕ → Place
-place_after before = place_from (place_at 1 1) before
+abbrev pub place_after_bytes : List ℕ → Place
+place_after_bytes before = place_from (text_place 1 1) before
 
 -- a token at its place
 abbrev pub token_placed : TokenKind → Place → Token
@@ -59,13 +59,13 @@ with_found tokens None place = tokens
 with_found tokens (Some p) place = tokens ++ kept p.0 place
 
 -- a piece was found of which a token is kept
-abbrev pub IsKept : Option (Front × ℕ) → Place → Type 0
-IsKept None place = ⊥
-IsKept (Some p) place = kept p.0 place ≡ [] → ⊥
+abbrev pub TokenIsKept : Option (Front × ℕ) → Place → Type 0
+TokenIsKept None place = ⊥
+TokenIsKept (Some p) place = kept p.0 place ≡ [] → ⊥
 
 -- what is found is kept and its length answered, and memory is wanting only where a token is kept
 abbrev pub TakesFound : {E : Type 0} → Option (Front × ℕ) → Place → (old new : List Token) → Result ℕ E → Type 0
-TakesFound found place old new result = MatchResult result (λ n. (n ≡ length_found found) × (new ≡ with_found old found place)) (λ _. IsKept found place)
+TakesFound found place old new result = MatchResult result (λ n. (n ≡ length_found found) × (new ≡ with_found old found place)) (λ _. TokenIsKept found place)
 
 -- a place has room in a machine's words for so many bytes more
 abbrev pub PlaceFits : Place → ℕ → Type 0
@@ -80,13 +80,13 @@ all_bytes (p ∷ ps) = bytes p ++ all_bytes ps
 abbrev pub tokens_among : List ℕ → List Piece → List Token
 tokens_among before [] = []
 tokens_among before (gap w ∷ ps) = tokens_among (before ++ w) ps
-tokens_among before (token k w ∷ ps) = token_placed k (place_after before) ∷ tokens_among (before ++ w) ps
+tokens_among before (token k w ∷ ps) = token_placed k (place_after_bytes before) ∷ tokens_among (before ++ w) ps
 
 -- the text has these tokens, of which the last is the end
 pub record HasTokens (text : List ℕ) (tokens : List Token) : Type 0 where
   pub pieces : List Piece
   pub cut : Cuts text pieces []
-  pub are : tokens ≡ tokens_among [] pieces ++ token_placed kind.End (place_after text) ∷ []
+  pub are : tokens ≡ tokens_among [] pieces ++ token_placed kind.End (place_after_bytes text) ∷ []
 
 -- the text is cut into pieces up to this place, and no piece stands there
 pub record IsBreach (text : List ℕ) (place : Place) : Type 0 where
@@ -95,7 +95,7 @@ pub record IsBreach (text : List ℕ) (place : Place) : Type 0 where
   pub cut : Cuts text pieces rest
   pub filled : 0 < length rest
   pub none : (p : Piece) (more : List ℕ) → rest ≡ bytes p ++ more → Stands p more → ⊥
-  pub is : place ≡ place_after (all_bytes pieces)
+  pub is : place ≡ place_after_bytes (all_bytes pieces)
 
 -- a text has one list of tokens at most
 abbrev pub TokensAreOne : List ℕ → Type 0
@@ -129,6 +129,6 @@ AreEnded (t ∷ []) = t.kind ≡ kind.End
 AreEnded (t ∷ (u ∷ ts)) = (t.kind ≡ kind.End → ⊥) × (IsSoundToken t.kind × AreEnded (u ∷ ts))
 
 -- what readers of tokens ask for
-pub record AreReady (text : List ℕ) (tokens : List Token) : Type 0 where
+pub record AreReadyTokens (text : List ℕ) (tokens : List Token) : Type 0 where
   pub few : length tokens ≤ length text + 1
   pub ended : AreEnded tokens

@@ -22,8 +22,8 @@ pub record IsHexadecimal (n : ℕ) (w : List ℕ) : Type 0 where
   pub is : digits_value 16 digits ≡ n
 
 -- the bytes write the number, at most 2^64 - 1
-abbrev pub Writes : ℕ → List ℕ → Type 0
-Writes n w = (n < 2 ^ 64) × (IsDecimal n w ⊎ IsHexadecimal n w)
+abbrev pub WritesNumber : ℕ → List ℕ → Type 0
+WritesNumber n w = (n < 2 ^ 64) × (IsDecimal n w ⊎ IsHexadecimal n w)
 
 -- a sign
 abbrev pub IsSign : TokenKind → List ℕ → Type 0
@@ -31,11 +31,11 @@ IsSign k w = Lists dashes w k ⊎ (Lists long_signs w k ⊎ Lists short_signs w 
 
 -- a word, a name or a number
 abbrev pub IsRun : TokenKind → List ℕ → Type 0
-IsRun k w = Lists words w k ⊎ (((k ≡ kind.Name w) × IsName w) ⊎ ((n : ℕ) × ((k ≡ kind.Number n) × Writes n w)))
+IsRun k w = Lists words w k ⊎ (((k ≡ kind.Name w) × IsName w) ⊎ ((n : ℕ) × ((k ≡ kind.Number n) × WritesNumber n w)))
 
 -- the bytes spell the token
-abbrev pub Spells : TokenKind → List ℕ → Type 0
-Spells k w = IsSign k w ⊎ IsRun k w
+abbrev pub SpellsToken : TokenKind → List ℕ → Type 0
+SpellsToken k w = IsSign k w ⊎ IsRun k w
 
 -- space, tab, line feed, carriage return
 abbrev pub IsSpace : ℕ → Type 0
@@ -74,8 +74,8 @@ BeginsComment text = (slice_index text 0 ≡ 47) × ((slice_index text 1 ≡ 47)
 -- the token stands in front of the rest, and no longer one does. A number that a letter, a digit
 -- or `_` follows is no token, nor is what begins a comment
 pub record IsLongest (k : TokenKind) (w rest : List ℕ) : Type 0 where
-  pub spelled : Spells k w
-  pub longest : (j : TokenKind) (v more : List ℕ) → Spells j v → v ++ more ≡ w ++ rest → length v ≤ length w
+  pub spelled : SpellsToken k w
+  pub longest : (j : TokenKind) (v more : List ℕ) → SpellsToken j v → v ++ more ≡ w ++ rest → length v ≤ length w
   pub apart : (n : ℕ) → k ≡ kind.Number n → BeginsWithout IsNameByte rest
   pub plain : BeginsComment (w ++ rest) → ⊥
 

@@ -40,8 +40,8 @@ pub fn counts(tokens: &[Token]) -> Counts
 /// How many brackets are open after a token, and the most at one point so far.
 fn open_after(depth: u64, most: u64, kind: &TokenKind) -> (u64, u64)
     requires { (depth + 1 < 2 ^ 64) × (depth ≤ most) }
-    ensures open { result.0 ≡ counted.open_after depth kind.now }
-    ensures most { result.1 ≡ max (counted.open_after depth kind.now) most }
+    ensures open { result.0 ≡ counted.open_brackets_after depth kind.now }
+    ensures most { result.1 ≡ max (counted.open_brackets_after depth kind.now) most }
 {
     match kind {
         TokenKind::OpenParen | TokenKind::OpenBracket | TokenKind::OpenBrace => {
@@ -81,7 +81,7 @@ fn is_separator(kind: &TokenKind) -> bool
 
 /// Whether the token is the sign of an operator.
 fn is_operator(kind: &TokenKind) -> bool
-    ensures { result ≡ counted.is_operator kind.now }
+    ensures { result ≡ counted.is_operator_sign kind.now }
 {
     matches!(
         kind,

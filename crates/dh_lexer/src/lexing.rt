@@ -4,7 +4,7 @@
 ghost use Rattle.std.specs.Prelude.{◌≡◌, ℕ, ◌<◌, ◌≤◌, ◌==◌, List, [], take, drop, length, slice_index, is_ok, option_map, OnErr, IfOk};
 ghost use Rattle.dh_lexer.specs.FrontPiece.{front_of, front_token, token_of};
 ghost use Rattle.dh_lexer.specs.LexedText as text;
-ghost use Rattle.dh_lexer.specs.LexedText.{place_from, with_kept, PlaceFits, TakesFound, TakesFront, TokensAreOne, BreachIsOne, TokensExcludeBreach, Lexed, AreReady};
+ghost use Rattle.dh_lexer.specs.LexedText.{place_from, with_kept, PlaceFits, TakesFound, TakesFront, TokensAreOne, BreachIsOne, TokensExcludeBreach, Lexed, AreReadyTokens};
 
 use crate::fronts::{Front, is_space, slash_at, token_at};
 use crate::sharing::KnownNames;
@@ -18,7 +18,7 @@ use std::alloc::Global;
 pub fn lex(alloc: Global, text: &[u8]) -> Result<Vec<Token>, PassFault>
     requires { length text.now ≤ 1048576 }
     ensures lexed { Lexed text.now result }
-    ensures ready { IfOk result (λ v. AreReady text.now v.items) }
+    ensures ready { IfOk result (λ v. AreReadyTokens text.now v.items) }
 {
     // each token but the last has a byte of its own, and room that is not used is never touched
     let mut tokens = Vec::with_capacity(alloc, text.len())?;

@@ -3,15 +3,15 @@
 ghost use Rattle.std.specs.Prelude.{◌≡◌, ◌<◌, ◌≤◌, length};
 ghost use Rattle.std.specs.List.{AllByRecursion};
 ghost use Rattle.dh_tree.specs.Names.{IsNameByte};
-ghost use Rattle.dh_lexer.specs.FrontPiece.{digits_number, number_of};
+ghost use Rattle.dh_lexer.specs.FrontPiece.{digits_number, scanned_number};
 
 /// The number that these letters, digits and `_` write, of which the first is a digit: decimal
 /// digits without a leading zero, or `0x` and hexadecimal digits, below 2^64. None where they
 /// write none.
-#[tactic(auto, unfolding(crate::specs::FrontPiece::number_of))]
+#[tactic(auto, unfolding(crate::specs::FrontPiece::scanned_number))]
 pub(crate) fn number(bytes: &[u8]) -> Option<u64>
     requires { (0 < length bytes.now) × AllByRecursion IsNameByte bytes.now }
-    ensures { result ≡ number_of bytes.now }
+    ensures { result ≡ scanned_number bytes.now }
 {
     if bytes[0] == b'0' && bytes.len() >= 2 && bytes[1] == b'x' {
         return digits(&bytes[2..], 16);

@@ -23,7 +23,7 @@ use Rattle.dh_plan.specs.BoundPorts.{Uses, IsLaterUse, port_used}
 use Rattle.dh_plan.specs.PlainPlans.{PlainPlan, first_in, operations_in}
 use Rattle.dh_plan.specs.PlanRuns.{start_at, block_values}
 use Rattle.dh_plan.specs.SoundPlans.{HasUse, IsListed, IsOneOf, Reaches, InOneBank, WritesAt, writes_memory, ComesBefore, OperationBefore, use_in}
-use Rattle.dh_lower.specs.KeyedPuts.{KeyedPut, WriteOne, RisesBefore, PortsRise, IsPut}
+use Rattle.dh_lower.specs.KeyedPuts.{KeyedPut, WriteOne, RisesBefore, PortsRise, IsAmongPuts}
 use Rattle.dh_lower.specs.PortUsers.{User}
 use Rattle.dh_lower.specs.ShownWords.{port_bound, port_or_first}
 use Rattle.dh_lower.specs.StepFacts.{HasPortUsers, StepIsKept}
@@ -57,7 +57,7 @@ module _ (plan : PlainPlan) (u : Uses) (s : StepStart) (block : ℕ) (ws : List 
     pub put_is : k ≡ keyed (port_bound plan u block i spot.bank reach) spot (word_at (first_in plan block) ws value).bits
 
   spot_put : (i : ℕ) (r : Reach) (value : ℕ) (x : Option Spot) (k : KeyedPut) → spot_of_reach s (first_in plan block) ws r ≡ x
-      → IsPut k (spot_puts plan u block i r (word_at (first_in plan block) ws value).bits x) → IsFormPut i (Write r value) k
+      → IsAmongPuts k (spot_puts plan u block i r (word_at (first_in plan block) ws value).bits x) → IsFormPut i (Write r value) k
   spot_put i r value None k e h = elim h [ ]
   spot_put i r value (Some spot) k e h = record {
     reach = r;
@@ -71,7 +71,7 @@ module _ (plan : PlainPlan) (u : Uses) (s : StepStart) (block : ℕ) (ws : List 
     ];
   }
 
-  form_put : (i : ℕ) (f : OperationForm) (k : KeyedPut) → IsPut k (form_puts plan u s block i ws f) → IsFormPut i f k
+  form_put : (i : ℕ) (f : OperationForm) (k : KeyedPut) → IsAmongPuts k (form_puts plan u s block i ws f) → IsFormPut i f k
   form_put i (Constant word) k h = elim h [ ]
   form_put i (Old register) k h = elim h [ ]
   form_put i (Compute op left right) k h = elim h [ ]
@@ -83,10 +83,10 @@ module _ (plan : PlainPlan) (u : Uses) (s : StepStart) (block : ℕ) (ws : List 
   form_put i (Write r value) k h = spot_put i r value (spot_of_reach s (first_in plan block) ws r) k refl h
   form_put i (Set register value) k h = elim h [ ]
 
-  operation_put : (i : ℕ) (o : Operation) (k : KeyedPut) → slice_get (operations_in plan block) i ≡ Some o → IsPut k (operation_puts plan u s block i ws o) → IsOperationPut plan u s block i ws k
+  operation_put : (i : ℕ) (o : Operation) (k : KeyedPut) → slice_get (operations_in plan block) i ≡ Some o → IsAmongPuts k (operation_puts plan u s block i ws o) → IsOperationPut plan u s block i ws k
   operation_put i o k at = by (is_on (first_in plan block) ws o.guard) refl
     where
-      by : (t : Bool) → is_on (first_in plan block) ws o.guard ≡ t → IsPut k (if t then form_puts plan u s block i ws o.form else []) → IsOperationPut plan u s block i ws k
+      by : (t : Bool) → is_on (first_in plan block) ws o.guard ≡ t → IsAmongPuts k (if t then form_puts plan u s block i ws o.form else []) → IsOperationPut plan u s block i ws k
       by true e h =
           let f = form_put i o.form k h in
           record { operation = o; reach = f.reach; value = f.value; spot = f.spot; there = at; form = f.form; on = e; leads = f.leads; put_is = f.put_is }
@@ -108,7 +108,7 @@ module _ (plan : PlainPlan) (u : Uses) (s : StepStart) (block : ℕ) (ws : List 
       plain : (i : ℕ) → i + 0 ≡ i
       plain i = omega arith
 
-  pub operations_from : (i : ℕ) (os : List Operation) (k : KeyedPut) → StandsBehind i os → IsPut k (operations_put plan u s block i ws os) → (j : ℕ) × ((i ≤ j) × IsOperationPut plan u s block j ws k)
+  pub operations_from : (i : ℕ) (os : List Operation) (k : KeyedPut) → StandsBehind i os → IsAmongPuts k (operations_put plan u s block i ws os) → (j : ℕ) × ((i ≤ j) × IsOperationPut plan u s block j ws k)
   operations_from i [] k h put = elim put [ ]
   operations_from i (o ∷ os) k h put =
       elim (which_put k (operation_puts plan u s block i ws o) (operations_put plan u s block (suc i) ws os) put) [
@@ -282,7 +282,7 @@ module _ (plan : PlainPlan) (u : Uses) (users : (port : ℕ) → List User) (has
   -- All of them.
 
   -- a list of rising ports behind another
-  higher_all : (k : KeyedPut) (ls : List KeyedPut) → ((l : KeyedPut) → IsPut l ls → WriteOne k l → k.port < l.port) → RisesBefore k ls
+  higher_all : (k : KeyedPut) (ls : List KeyedPut) → ((l : KeyedPut) → IsAmongPuts l ls → WriteOne k l → k.port < l.port) → RisesBefore k ls
   higher_all k [] h = tt
   higher_all k (l ∷ ls) h = (h l (inl refl), higher_all k ls (λ j there. h j (inr there)))
 
@@ -290,7 +290,7 @@ module _ (plan : PlainPlan) (u : Uses) (users : (port : ℕ) → List User) (has
   before_both k [] ls h g = g
   before_both k (j ∷ ks) ls h g = (h.0, before_both k ks ls h.1 g)
 
-  rises_append : (ks ls : List KeyedPut) → PortsRise ks → PortsRise ls → ((k l : KeyedPut) → IsPut k ks → IsPut l ls → WriteOne k l → k.port < l.port) → PortsRise (ks ++ ls)
+  rises_append : (ks ls : List KeyedPut) → PortsRise ks → PortsRise ls → ((k l : KeyedPut) → IsAmongPuts k ks → IsAmongPuts l ls → WriteOne k l → k.port < l.port) → PortsRise (ks ++ ls)
   rises_append [] ls h g cross = g
   rises_append (k ∷ ks) ls h g cross =
       (before_both k ks ls h.0 (higher_all k ls (λ l there. cross k l (inl refl) there)), rises_append ks ls h.1 g (λ j l a b. cross j l (inr a) b))
@@ -342,7 +342,7 @@ module _ (plan : PlainPlan) (u : Uses) (users : (port : ℕ) → List User) (has
     pub among : IsOneOf block bs
     pub own : IsOperationPut plan u start block place (meant block) k
 
-  pub from_blocks : (bs : List ℕ) (k : KeyedPut) → IsPut k (blocks_put plan u start bs) → FromBlocks bs k
+  pub from_blocks : (bs : List ℕ) (k : KeyedPut) → IsAmongPuts k (blocks_put plan u start bs) → FromBlocks bs k
   from_blocks [] k h = elim h [ ]
   from_blocks (b ∷ bs) k h =
       elim (which_put k (operations_put plan u start b 0 (meant b) (operations_in plan b)) (blocks_put plan u start bs) h) [

@@ -8,7 +8,7 @@ use Rattle.dh_net.specs.declared.nets.Driver.{Driver}
 use Rattle.dh_net.specs.declared.ports.Port.{Port}
 use Rattle.dh_meaning.specs.Effects.{put_element}
 use Rattle.dh_plan.specs.Blocks.{all_put}
-use Rattle.dh_lower.specs.KeyedPuts.{KeyedPut, puts_in, RisesBefore, PortsRise, IsPut}
+use Rattle.dh_lower.specs.KeyedPuts.{KeyedPut, puts_in, RisesBefore, PortsRise, IsAmongPuts}
 use Rattle.dh_lower.specs.StepPuts.{keyed, driver_puts, ports_put}
 
 -- each write that is served is of a row of its bank
@@ -44,9 +44,9 @@ ports_write table wires q (ds ∷ dss) (p ∷ ps) memories h =
 -- Their ports.
 
 abbrev AllFrom : ℕ → List KeyedPut → Type 0
-AllFrom q ks = (k : KeyedPut) → IsPut k ks → q ≤ k.port
+AllFrom q ks = (k : KeyedPut) → IsAmongPuts k ks → q ≤ k.port
 
-either_put : (k : KeyedPut) (ks ls : List KeyedPut) → IsPut k (ks ++ ls) → IsPut k ks ⊎ IsPut k ls
+either_put : (k : KeyedPut) (ks ls : List KeyedPut) → IsAmongPuts k (ks ++ ls) → IsAmongPuts k ks ⊎ IsAmongPuts k ls
 either_put k [] ls h = inr h
 either_put k (j ∷ ks) ls h = elim h [
   | inl here ↦ inl (inl here)
@@ -56,18 +56,18 @@ either_put k (j ∷ ks) ls h = elim h [
   ])
 ]
 
-pub put_left : (k : KeyedPut) (ks ls : List KeyedPut) → IsPut k ks → IsPut k (ks ++ ls)
+pub put_left : (k : KeyedPut) (ks ls : List KeyedPut) → IsAmongPuts k ks → IsAmongPuts k (ks ++ ls)
 put_left k [] ls h = elim h [ ]
 put_left k (j ∷ ks) ls h = elim h [
   | inl here ↦ inl here
   | inr later ↦ inr (put_left k ks ls later)
 ]
 
-pub put_right : (k : KeyedPut) (ks ls : List KeyedPut) → IsPut k ls → IsPut k (ks ++ ls)
+pub put_right : (k : KeyedPut) (ks ls : List KeyedPut) → IsAmongPuts k ls → IsAmongPuts k (ks ++ ls)
 put_right k [] ls h = h
 put_right k (j ∷ ks) ls h = inr (put_right k ks ls h)
 
-pub which_put : (k : KeyedPut) (ks ls : List KeyedPut) → IsPut k (ks ++ ls) → IsPut k ks ⊎ IsPut k ls
+pub which_put : (k : KeyedPut) (ks ls : List KeyedPut) → IsAmongPuts k (ks ++ ls) → IsAmongPuts k ks ⊎ IsAmongPuts k ls
 which_put k ks ls h = either_put k ks ls h
 
 -- the write of a driver
@@ -77,12 +77,12 @@ pub record IsDriverPut (table : List MemEntry) (wires : List ℕ) (q : ℕ) (p :
   pub writes : driver.write ≡ true
   pub put_is : k ≡ keyed q (record { memory = p.memory; bank = p.bank; row = slice_index wires driver.row; position = position_of_row table p (slice_index wires driver.row) }) (slice_index wires driver.data_)
 
-pub driver_put : (table : List MemEntry) (wires : List ℕ) (q : ℕ) (p : Port) (x : Option Driver) (k : KeyedPut) → IsPut k (driver_puts table wires q p x) → IsDriverPut table wires q p x k
+pub driver_put : (table : List MemEntry) (wires : List ℕ) (q : ℕ) (p : Port) (x : Option Driver) (k : KeyedPut) → IsAmongPuts k (driver_puts table wires q p x) → IsDriverPut table wires q p x k
 driver_put table wires q p None k h = elim h [ ]
 driver_put table wires q p (Some d) k h = by d.write refl h
   where
     by : (t : Bool) → d.write ≡ t
-        → IsPut k (if t then keyed q (record { memory = p.memory; bank = p.bank; row = slice_index wires d.row; position = position_of_row table p (slice_index wires d.row) }) (slice_index wires d.data_) ∷ [] else [])
+        → IsAmongPuts k (if t then keyed q (record { memory = p.memory; bank = p.bank; row = slice_index wires d.row; position = position_of_row table p (slice_index wires d.row) }) (slice_index wires d.data_) ∷ [] else [])
         → IsDriverPut table wires q p (Some d) k
     by true e h = record {
       driver = d;
@@ -96,13 +96,13 @@ driver_put table wires q p (Some d) k h = by d.write refl h
     by false e h = elim h [ ]
 
 pub driver_put_there : (table : List MemEntry) (wires : List ℕ) (q : ℕ) (p : Port) (x : Option Driver) (d : Driver) → x ≡ Some d → d.write ≡ true
-    → IsPut (keyed q (record { memory = p.memory; bank = p.bank; row = slice_index wires d.row; position = position_of_row table p (slice_index wires d.row) }) (slice_index wires d.data_)) (driver_puts table wires q p x)
+    → IsAmongPuts (keyed q (record { memory = p.memory; bank = p.bank; row = slice_index wires d.row; position = position_of_row table p (slice_index wires d.row) }) (slice_index wires d.data_)) (driver_puts table wires q p x)
 driver_put_there table wires q p x d is w =
-    subst (λ (y : Option Driver). IsPut (keyed q (record { memory = p.memory; bank = p.bank; row = slice_index wires d.row; position = position_of_row table p (slice_index wires d.row) }) (slice_index wires d.data_)) (driver_puts table wires q p y)) (sym is)
+    subst (λ (y : Option Driver). IsAmongPuts (keyed q (record { memory = p.memory; bank = p.bank; row = slice_index wires d.row; position = position_of_row table p (slice_index wires d.row) }) (slice_index wires d.data_)) (driver_puts table wires q p y)) (sym is)
     (by d.write w)
   where
     by : (t : Bool) → t ≡ true
-        → IsPut (keyed q (record { memory = p.memory; bank = p.bank; row = slice_index wires d.row; position = position_of_row table p (slice_index wires d.row) }) (slice_index wires d.data_))
+        → IsAmongPuts (keyed q (record { memory = p.memory; bank = p.bank; row = slice_index wires d.row; position = position_of_row table p (slice_index wires d.row) }) (slice_index wires d.data_))
         (if t then keyed q (record { memory = p.memory; bank = p.bank; row = slice_index wires d.row; position = position_of_row table p (slice_index wires d.row) }) (slice_index wires d.data_) ∷ [] else [])
     by true e = inl refl
     by false e = absurd (cc)

@@ -9,7 +9,7 @@ use Rattle.std.proofs.lemmas.List.{ext_get_or, get_or_past, get_or-set_same, get
 use Rattle.dh_meaning.specs.Effects.{put_element}
 use Rattle.dh_tree.specs.Elements.{Spot}
 use Rattle.dh_plan.specs.Blocks.{Put, all_put}
-use Rattle.dh_lower.specs.KeyedPuts.{KeyedPut, puts_in, RisesBefore, PortsRise, IsPut, SamePuts}
+use Rattle.dh_lower.specs.KeyedPuts.{KeyedPut, puts_in, RisesBefore, PortsRise, IsAmongPuts, SamePuts}
 
 abbrev memory_in : List (List ℕ) → ℕ → List ℕ
 memory_in memories m = get_or memories m []
@@ -122,11 +122,11 @@ abbrev WritesIt : KeyedPut → (m x : ℕ) → Type 0
 WritesIt k m x = (k.put.spot.memory ≡ m) × (k.put.spot.position ≡ x)
 
 data Last (ks : List KeyedPut) (m x : ℕ) : Type 0 where
-  no_write : ((k : KeyedPut) → IsPut k ks → WritesIt k m x → ⊥) → ((old : ℕ) → last_from (puts_in ks) m x old ≡ old) → Last ks m x
-  one_write : (k : KeyedPut) → IsPut k ks → WritesIt k m x → ((old : ℕ) → last_from (puts_in ks) m x old ≡ k.put.bits)
-      → ((l : KeyedPut) → IsPut l ks → WritesIt l m x → (l ≡ k) ⊎ (l.port < k.port)) → Last ks m x
+  no_write : ((k : KeyedPut) → IsAmongPuts k ks → WritesIt k m x → ⊥) → ((old : ℕ) → last_from (puts_in ks) m x old ≡ old) → Last ks m x
+  one_write : (k : KeyedPut) → IsAmongPuts k ks → WritesIt k m x → ((old : ℕ) → last_from (puts_in ks) m x old ≡ k.put.bits)
+      → ((l : KeyedPut) → IsAmongPuts l ks → WritesIt l m x → (l ≡ k) ⊎ (l.port < k.port)) → Last ks m x
 
-higher : (k : KeyedPut) (ks : List KeyedPut) (m x : ℕ) → RisesBefore k ks → WritesIt k m x → (l : KeyedPut) → IsPut l ks → WritesIt l m x → k.port < l.port
+higher : (k : KeyedPut) (ks : List KeyedPut) (m x : ℕ) → RisesBefore k ks → WritesIt k m x → (l : KeyedPut) → IsAmongPuts l ks → WritesIt l m x → k.port < l.port
 higher k [] m x h a l there b = elim there [ ]
 higher k (j ∷ ks) m x h a l there b = elim there [
   | inl here ↦ subst (λ (y : KeyedPut). k.port < y.port) (sym here)

@@ -27,13 +27,13 @@ use Rattle.dh_plan.specs.PlanRuns.{start_at}
 use Rattle.dh_plan.specs.SoundPlans.{use_in, HasUse, IsListed}
 use Rattle.dh_plan.specs.Ways as graph
 use Rattle.dh_plan.specs.Ways.{rests, in_state, in_fork}
-use Rattle.dh_lower.specs.ExampleNets.{sized}
 use Rattle.dh_lower.specs.ExampleSelects.{picked_row, two_banks, read_operations, read_plan, user_of, read_users, read_making, register_of, read_cells, read_driver, read_net, read_holds}
 use Rattle.dh_lower.specs.NetOfPlan.{words_of, moment_at, spot_length, next_registers, ShowsAtClock, ShowsOver, IsNetOf}
 use Rattle.dh_lower.specs.PortUsers.{User, HasUser, AreApart, AreUsers, DrivesFor, DriveFor}
 use Rattle.dh_lower.specs.ShownWords.{bank_or_first, in_ports, port_bound}
 use Rattle.dh_lower.specs.SpotsDone.{blocks_of_spot}
 use Rattle.dh_plan.proofs.StoringSound.{not_reserved}
+use Rattle.dh_net.specs.Parts.{one_cell}
 
 -- What holds of each item of a list that is written out, by its place.
 
@@ -118,7 +118,7 @@ operand i wire width earlier wide = record { earlier = earlier; wide = wide }
 abbrev IsOwnCell : ℕ → Cell → Type 0
 IsOwnCell i c = IsCell two_banks read_net.registers read_cells i c
 
-own_cell : (i width : ℕ) (form : CellForm) → IsWidth width → FormFits two_banks read_net.registers read_cells i width form → IsOwnCell i (sized width form)
+own_cell : (i width : ℕ) (form : CellForm) → IsWidth width → FormFits two_banks read_net.registers read_cells i width form → IsOwnCell i (one_cell width form)
 own_cell i width form wide fits = record { least = wide.0; greatest = wide.1; form = fits }
 
 bank_port : (bank : ℕ) → bank < 2 → IsPort two_banks 0 bank 0 8
@@ -324,22 +324,22 @@ record Wires (state clock tick s y : ℕ) (held wires : List ℕ) : Type 0 where
 read_wires_are : (state clock tick s y : ℕ) (now : State) (wires : List ℕ) → now.registers ≡ state ∷ clock ∷ tick ∷ s ∷ y ∷ []
     → IsValuation two_banks read_cells now.registers now.held wires → Wires state clock tick s y now.held wires
 read_wires_are state clock tick s y now wires registers v =
-    let w0 : slice_index wires 0 ≡ state = v.each 0 (sized 1 (cell.Reg 0)) refl ∙ ap (λ (rs : List ℕ). slice_index rs 0) registers in
-    let w1 : slice_index wires 1 ≡ clock = v.each 1 (sized 1 (cell.Reg 1)) refl ∙ ap (λ (rs : List ℕ). slice_index rs 1) registers in
-    let w2 : slice_index wires 2 ≡ tick = v.each 2 (sized 1 (cell.Reg 2)) refl ∙ ap (λ (rs : List ℕ). slice_index rs 2) registers in
-    let w3 : slice_index wires 3 ≡ s = v.each 3 (sized 1 (cell.Reg 3)) refl ∙ ap (λ (rs : List ℕ). slice_index rs 3) registers in
-    let w4 : slice_index wires 4 ≡ y = v.each 4 (sized 8 (cell.Reg 4)) refl ∙ ap (λ (rs : List ℕ). slice_index rs 4) registers in
-    let w5 : slice_index wires 5 ≡ 0 = v.each 5 (sized 1 (cell.Const 0)) refl in
-    let w6 : slice_index wires 6 ≡ 1 = v.each 6 (sized 1 (cell.Const 1)) refl in
-    let w7 : slice_index wires 7 ≡ going state = v.each 7 (sized 1 (cell.Eq 0 5)) refl ∙ (λ j. if w0 j == w5 j then 1 else 0) in
-    let w8 : slice_index wires 8 ≡ last_clock state clock = v.each 8 (sized 1 (cell.Mux 7 1 5)) refl ∙ (λ j. if w7 j == 1 then w1 j else w5 j) in
-    let w9 : slice_index wires 9 ≡ slice_index now.held 0 = v.each 9 (sized 8 (cell.Data 0 0 0)) refl in
-    let w10 : slice_index wires 10 ≡ slice_index now.held 1 = v.each 10 (sized 8 (cell.Data 0 1 0)) refl in
-    let w11 : slice_index wires 11 ≡ when (s == 1) = v.each 11 (sized 1 (cell.Eq 3 6)) refl ∙ (λ j. if w3 j == w6 j then 1 else 0) in
-    let w12 : slice_index wires 12 ≡ element s now.held = v.each 12 (sized 8 (cell.Mux 11 10 9)) refl ∙ (λ j. if w11 j == 1 then w10 j else w9 j) in
-    let w13 : slice_index wires 13 ≡ when (clock == 0) = v.each 13 (sized 1 (cell.Eq 1 5)) refl ∙ (λ j. if w1 j == w5 j then 1 else 0) in
-    let w14 : slice_index wires 14 ≡ first_clock state clock = v.each 14 (sized 1 (cell.Mux 7 13 5)) refl ∙ (λ j. if w7 j == 1 then w13 j else w5 j) in
-    let w15 : slice_index wires 15 ≡ when (s == 0) = v.each 15 (sized 1 (cell.Eq 3 5)) refl ∙ (λ j. if w3 j == w5 j then 1 else 0) in
+    let w0 : slice_index wires 0 ≡ state = v.each 0 (one_cell 1 (cell.Reg 0)) refl ∙ ap (λ (rs : List ℕ). slice_index rs 0) registers in
+    let w1 : slice_index wires 1 ≡ clock = v.each 1 (one_cell 1 (cell.Reg 1)) refl ∙ ap (λ (rs : List ℕ). slice_index rs 1) registers in
+    let w2 : slice_index wires 2 ≡ tick = v.each 2 (one_cell 1 (cell.Reg 2)) refl ∙ ap (λ (rs : List ℕ). slice_index rs 2) registers in
+    let w3 : slice_index wires 3 ≡ s = v.each 3 (one_cell 1 (cell.Reg 3)) refl ∙ ap (λ (rs : List ℕ). slice_index rs 3) registers in
+    let w4 : slice_index wires 4 ≡ y = v.each 4 (one_cell 8 (cell.Reg 4)) refl ∙ ap (λ (rs : List ℕ). slice_index rs 4) registers in
+    let w5 : slice_index wires 5 ≡ 0 = v.each 5 (one_cell 1 (cell.Const 0)) refl in
+    let w6 : slice_index wires 6 ≡ 1 = v.each 6 (one_cell 1 (cell.Const 1)) refl in
+    let w7 : slice_index wires 7 ≡ going state = v.each 7 (one_cell 1 (cell.Eq 0 5)) refl ∙ (λ j. if w0 j == w5 j then 1 else 0) in
+    let w8 : slice_index wires 8 ≡ last_clock state clock = v.each 8 (one_cell 1 (cell.Mux 7 1 5)) refl ∙ (λ j. if w7 j == 1 then w1 j else w5 j) in
+    let w9 : slice_index wires 9 ≡ slice_index now.held 0 = v.each 9 (one_cell 8 (cell.Data 0 0 0)) refl in
+    let w10 : slice_index wires 10 ≡ slice_index now.held 1 = v.each 10 (one_cell 8 (cell.Data 0 1 0)) refl in
+    let w11 : slice_index wires 11 ≡ when (s == 1) = v.each 11 (one_cell 1 (cell.Eq 3 6)) refl ∙ (λ j. if w3 j == w6 j then 1 else 0) in
+    let w12 : slice_index wires 12 ≡ element s now.held = v.each 12 (one_cell 8 (cell.Mux 11 10 9)) refl ∙ (λ j. if w11 j == 1 then w10 j else w9 j) in
+    let w13 : slice_index wires 13 ≡ when (clock == 0) = v.each 13 (one_cell 1 (cell.Eq 1 5)) refl ∙ (λ j. if w1 j == w5 j then 1 else 0) in
+    let w14 : slice_index wires 14 ≡ first_clock state clock = v.each 14 (one_cell 1 (cell.Mux 7 13 5)) refl ∙ (λ j. if w7 j == 1 then w13 j else w5 j) in
+    let w15 : slice_index wires 15 ≡ when (s == 0) = v.each 15 (one_cell 1 (cell.Eq 3 5)) refl ∙ (λ j. if w3 j == w5 j then 1 else 0) in
     record {
       state_wire = w0;
       tick_wire = w2;
@@ -348,11 +348,11 @@ read_wires_are state clock tick s y now wires registers v =
       last_wire = w8;
       element_wire = w12;
       first_wire = w14;
-      first_bank = v.each 16 (sized 1 (cell.Mux 14 15 5)) refl ∙ (λ j. if w14 j == 1 then w15 j else w5 j);
-      second_bank = v.each 17 (sized 1 (cell.Mux 14 11 5)) refl ∙ (λ j. if w14 j == 1 then w11 j else w5 j);
-      state_next = v.each 18 (sized 1 (cell.Mux 7 8 6)) refl ∙ (λ j. if w7 j == 1 then w8 j else w6 j);
-      y_next = v.each 19 (sized 8 (cell.Mux 8 12 4)) refl ∙ (λ j. if w8 j == 1 then w12 j else w4 j);
-      fault_wire = v.each 20 (sized 32 (cell.Const 0)) refl;
+      first_bank = v.each 16 (one_cell 1 (cell.Mux 14 15 5)) refl ∙ (λ j. if w14 j == 1 then w15 j else w5 j);
+      second_bank = v.each 17 (one_cell 1 (cell.Mux 14 11 5)) refl ∙ (λ j. if w14 j == 1 then w11 j else w5 j);
+      state_next = v.each 18 (one_cell 1 (cell.Mux 7 8 6)) refl ∙ (λ j. if w7 j == 1 then w8 j else w6 j);
+      y_next = v.each 19 (one_cell 8 (cell.Mux 8 12 4)) refl ∙ (λ j. if w8 j == 1 then w12 j else w4 j);
+      fault_wire = v.each 20 (one_cell 32 (cell.Const 0)) refl;
     }
 
 -- In the step.

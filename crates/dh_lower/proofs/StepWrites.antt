@@ -26,7 +26,7 @@ use Rattle.dh_plan.specs.PlanRuns.{start_at, block_values, events_of_block, step
 use Rattle.dh_plan.specs.SoundPlans.{IsOneOf, use_in}
 use Rattle.dh_plan.proofs.Appends.{puts_behind}
 use Rattle.dh_plan.proofs.ValuesAlike.{all_right}
-use Rattle.dh_lower.specs.KeyedPuts.{KeyedPut, puts_in, IsPut}
+use Rattle.dh_lower.specs.KeyedPuts.{KeyedPut, puts_in, IsAmongPuts}
 use Rattle.dh_lower.specs.PortUsers.{User, HasUser, Moment, form_asks, SaysForm, DrivesFor, DriveFor}
 use Rattle.dh_lower.specs.ShownWords.{port_bound}
 use Rattle.dh_lower.specs.StepFacts.{HasPortUsers, Acts, IsMoment}
@@ -98,41 +98,41 @@ module _ (plan : PlainPlan) (u : Uses) (s : StepStart) where
   -- An operation's write among those of its block, and of blocks.
 
   put_at : (block : ℕ) (ws : List Word) (k : KeyedPut) (i : ℕ) (os : List Operation) (n : ℕ) (o : Operation) → slice_get os n ≡ Some o
-      → IsPut k (operation_puts plan u s block (i + n) ws o) → IsPut k (operations_put plan u s block i ws os)
+      → IsAmongPuts k (operation_puts plan u s block (i + n) ws o) → IsAmongPuts k (operations_put plan u s block i ws os)
   put_at block ws k i [] n o at h = absurd (cc)
   put_at block ws k i (p ∷ os) zero o at h =
       let same : o ≡ p = cc in
       put_left k (operation_puts plan u s block i ws p) _
-      (subst (λ (x : Operation). IsPut k (operation_puts plan u s block i ws x)) same (subst (λ (n : ℕ). IsPut k (operation_puts plan u s block n ws o)) (plain i) h))
+      (subst (λ (x : Operation). IsAmongPuts k (operation_puts plan u s block i ws x)) same (subst (λ (n : ℕ). IsAmongPuts k (operation_puts plan u s block n ws o)) (plain i) h))
     where
       plain : (i : ℕ) → i + 0 ≡ i
       plain i = omega arith
   put_at block ws k i (p ∷ os) (suc n) o at h =
-      put_right k (operation_puts plan u s block i ws p) _ (put_at block ws k (suc i) os n o at (subst (λ (x : ℕ). IsPut k (operation_puts plan u s block x ws o)) (moved i n) h))
+      put_right k (operation_puts plan u s block i ws p) _ (put_at block ws k (suc i) os n o at (subst (λ (x : ℕ). IsAmongPuts k (operation_puts plan u s block x ws o)) (moved i n) h))
     where
       moved : (i n : ℕ) → i + suc n ≡ suc i + n
       moved i n = omega arith
 
-  own_put : (block i : ℕ) (ws : List Word) (k : KeyedPut) → (h : IsOperationPut plan u s block i ws k) → IsPut k (operation_puts plan u s block i ws h.operation)
+  own_put : (block i : ℕ) (ws : List Word) (k : KeyedPut) → (h : IsOperationPut plan u s block i ws k) → IsAmongPuts k (operation_puts plan u s block i ws h.operation)
   own_put block i ws k h =
       let is : operation_puts plan u s block i ws h.operation ≡ keyed (port_bound plan u block i h.spot.bank h.reach) h.spot (word_at (first_in plan block) ws h.value).bits ∷ []
       = ap (λ (b : Bool). if b then form_puts plan u s block i ws h.operation.form else []) h.on
       ∙ (ap (λ (f : OperationForm). form_puts plan u s block i ws f) h.form
       ∙ ap (λ (x : Option Spot). spot_puts plan u block i h.reach (word_at (first_in plan block) ws h.value).bits x) h.leads) in
-      subst (λ (l : List KeyedPut). IsPut k l) (sym is) (inl h.put_is)
+      subst (λ (l : List KeyedPut). IsAmongPuts k l) (sym is) (inl h.put_is)
 
-  block_put : (block i : ℕ) (ws : List Word) (k : KeyedPut) → IsOperationPut plan u s block i ws k → IsPut k (operations_put plan u s block 0 ws (operations_in plan block))
+  block_put : (block i : ℕ) (ws : List Word) (k : KeyedPut) → IsOperationPut plan u s block i ws k → IsAmongPuts k (operations_put plan u s block 0 ws (operations_in plan block))
   block_put block i ws k h =
-      put_at block ws k 0 (operations_in plan block) i h.operation h.there (subst (λ (n : ℕ). IsPut k (operation_puts plan u s block n ws h.operation)) (plain i) (own_put block i ws k h))
+      put_at block ws k 0 (operations_in plan block) i h.operation h.there (subst (λ (n : ℕ). IsAmongPuts k (operation_puts plan u s block n ws h.operation)) (plain i) (own_put block i ws k h))
     where
       plain : (i : ℕ) → i ≡ 0 + i
       plain i = omega arith
 
-  step_put : (bs : List ℕ) (block i : ℕ) (k : KeyedPut) → IsOneOf block bs → IsOperationPut plan u s block i (block_values plan s block) k → IsPut k (blocks_put plan u s bs)
+  step_put : (bs : List ℕ) (block i : ℕ) (k : KeyedPut) → IsOneOf block bs → IsOperationPut plan u s block i (block_values plan s block) k → IsAmongPuts k (blocks_put plan u s bs)
   step_put [] block i k there h = elim there [ ]
   step_put (b ∷ bs) block i k there h = elim there [
     | inl here ↦ put_left k (operations_put plan u s b 0 (block_values plan s b) (operations_in plan b)) (blocks_put plan u s bs)
-        (subst (λ (c : ℕ). IsPut k (operations_put plan u s c 0 (block_values plan s c) (operations_in plan c))) here (block_put block i (block_values plan s block) k h))
+        (subst (λ (c : ℕ). IsAmongPuts k (operations_put plan u s c 0 (block_values plan s c) (operations_in plan c))) here (block_put block i (block_values plan s block) k h))
     | inr later ↦ put_right k (operations_put plan u s b 0 (block_values plan s b) (operations_in plan b)) (blocks_put plan u s bs) (step_put bs block i k later h)
   ]
 
@@ -162,7 +162,7 @@ module _ (table : List MemEntry) (wires : List ℕ) where
     pub port_there : slice_get ps place ≡ Some port
     pub own : IsDriverPut table wires (first + place) port (served wires drivers) k
 
-  from_ports : (first : ℕ) (dss : List (List Driver)) (ps : List Port) (k : KeyedPut) → IsPut k (ports_put table wires first dss ps) → AtPort first dss ps k
+  from_ports : (first : ℕ) (dss : List (List Driver)) (ps : List Port) (k : KeyedPut) → IsAmongPuts k (ports_put table wires first dss ps) → AtPort first dss ps k
   from_ports first [] ps k h = elim h [ ]
   from_ports first (ds ∷ dss) [] k h = elim h [ ]
   from_ports first (ds ∷ dss) (p ∷ ps) k h =
@@ -194,22 +194,22 @@ module _ (table : List MemEntry) (wires : List ℕ) where
       moved n i = omega arith
 
   to_ports : (first : ℕ) (dss : List (List Driver)) (ps : List Port) (q : ℕ) (ds : List Driver) (p : Port) (k : KeyedPut) → slice_get dss q ≡ Some ds → slice_get ps q ≡ Some p
-      → IsPut k (driver_puts table wires (first + q) p (served wires ds)) → IsPut k (ports_put table wires first dss ps)
+      → IsAmongPuts k (driver_puts table wires (first + q) p (served wires ds)) → IsAmongPuts k (ports_put table wires first dss ps)
   to_ports first [] ps q ds p k a b h = absurd (cc)
   to_ports first (x ∷ dss) [] q ds p k a b h = absurd (cc)
   to_ports first (x ∷ dss) (y ∷ ps) zero ds p k a b h =
       let same : ds ≡ x = cc in
       let port : p ≡ y = cc in
       put_left k (driver_puts table wires first y (served wires x)) _
-      (subst (λ (l : List Driver). IsPut k (driver_puts table wires first y (served wires l))) same
-      (subst (λ (z : Port). IsPut k (driver_puts table wires first z (served wires ds))) port
-      (subst (λ (n : ℕ). IsPut k (driver_puts table wires n p (served wires ds))) (plain first) h)))
+      (subst (λ (l : List Driver). IsAmongPuts k (driver_puts table wires first y (served wires l))) same
+      (subst (λ (z : Port). IsAmongPuts k (driver_puts table wires first z (served wires ds))) port
+      (subst (λ (n : ℕ). IsAmongPuts k (driver_puts table wires n p (served wires ds))) (plain first) h)))
     where
       plain : (n : ℕ) → n + 0 ≡ n
       plain n = omega arith
   to_ports first (x ∷ dss) (y ∷ ps) (suc q) ds p k a b h =
       put_right k (driver_puts table wires first y (served wires x)) _
-      (to_ports (suc first) dss ps q ds p k a b (subst (λ (n : ℕ). IsPut k (driver_puts table wires n p (served wires ds))) (moved first q) h))
+      (to_ports (suc first) dss ps q ds p k a b (subst (λ (n : ℕ). IsAmongPuts k (driver_puts table wires n p (served wires ds))) (moved first q) h))
     where
       moved : (n i : ℕ) → n + suc i ≡ suc n + i
       moved n i = omega arith
@@ -356,7 +356,7 @@ module _ (plan : PlainPlan) (t : Timing) (u : Uses) (users : (port : ℕ) → Li
       let a = (served_for q ds p d at port is).ask in
       subst (λ (n : ℕ). n < p.rows) (sym a.row) a.below
 
-  from_port : (k : KeyedPut) → IsPut k (ports_put plan.table wires 0 dss (ports_of plan.table)) → IsPut k (blocks_put plan u start m.active)
+  from_port : (k : KeyedPut) → IsAmongPuts k (ports_put plan.table wires 0 dss (ports_of plan.table)) → IsAmongPuts k (blocks_put plan u start m.active)
   from_port k h =
       let found = from_ports plan.table wires 0 dss (ports_of plan.table) k h in
       let s = served_for found.place found.drivers found.port found.own.driver found.drivers_there found.port_there found.own.is in
@@ -377,7 +377,7 @@ module _ (plan : PlainPlan) (t : Timing) (u : Uses) (users : (port : ℕ) → Li
   -- the port of a write of an operation serves it
   port_writes : (q : ℕ) (p : Port) (ds : List Driver) (v : User) (o : Operation) (r : Reach) (value : ℕ) (k : KeyedPut) → m.commits ≡ true → o.form ≡ Write r value
       → Acts plan registers memories m.active v o r → IsOperationPut plan u start v.block v.place (meant v.block) k → slice_get (ports_of plan.table) q ≡ Some p → HasUser v (users q)
-      → Served plan t words m p wires ds (users q) → IsPut k (driver_puts plan.table wires q p (served wires ds))
+      → Served plan t words m p wires ds (users q) → IsAmongPuts k (driver_puts plan.table wires q p (served wires ds))
   port_writes q p ds v o r value k commits form acts own port user (nobody none all) =
       let same : Acts plan registers memories m.active v (record { guard = o.guard; form = Write r value }) r
       = subst (λ (f : OperationForm). Acts plan registers memories m.active v (record { guard = o.guard; form = f }) r) form acts in
@@ -392,9 +392,9 @@ module _ (plan : PlainPlan) (t : Timing) (u : Uses) (users : (port : ℕ) → Li
       let says : SaysForm p wires (first_in plan v.block) (words v.block) d (Write r value)
       = subst (λ (f : OperationForm). SaysForm p wires (first_in plan v.block) (words v.block) d f) (ap (λ (x : Operation). x.form) operation ∙ form) a.says in
       let one = one_write_each plan u start v.block v.place (meant v.block) (port_put q p d) k (write_of q p d v user a says.writes) own in
-      subst (λ (x : KeyedPut). IsPut x (driver_puts plan.table wires q p (served wires ds))) one (driver_put_there plan.table wires q p (served wires ds) d is says.writes)
+      subst (λ (x : KeyedPut). IsAmongPuts x (driver_puts plan.table wires q p (served wires ds))) one (driver_put_there plan.table wires q p (served wires ds) d is says.writes)
 
-  from_operation : m.commits ≡ true → (k : KeyedPut) → IsPut k (blocks_put plan u start m.active) → IsPut k (ports_put plan.table wires 0 dss (ports_of plan.table))
+  from_operation : m.commits ≡ true → (k : KeyedPut) → IsAmongPuts k (blocks_put plan u start m.active) → IsAmongPuts k (ports_put plan.table wires 0 dss (ports_of plan.table))
   from_operation commits k h =
       let found = from_blocks plan u users has registers memories m.active now.kept m.active k h in
       let own = found.own in
@@ -408,7 +408,7 @@ module _ (plan : PlainPlan) (t : Timing) (u : Uses) (users : (port : ℕ) → Li
       = record { active = found.among; there = own.there; uses = ap (λ (f : OperationForm). use_in f) own.form; on = own.on; picks = lead.picks } in
       let put = port_writes q bound.0 ds.0 v own.operation own.reach own.value k commits own.form acts own bound.1.there user
       (which_served plan t words m bound.0 wires ds.0 (users q) (drives q ds.0 bound.0 ds.1 bound.1.there)) in
-      to_ports plan.table wires 0 dss (ports_of plan.table) q ds.0 bound.0 k ds.1 bound.1.there (subst (λ (n : ℕ). IsPut k (driver_puts plan.table wires n bound.0 (served wires ds.0))) (plain q) put)
+      to_ports plan.table wires 0 dss (ports_of plan.table) q ds.0 bound.0 k ds.1 bound.1.there (subst (λ (n : ℕ). IsAmongPuts k (driver_puts plan.table wires n bound.0 (served wires ds.0))) (plain q) put)
     where
       plain : (n : ℕ) → n ≡ 0 + n
       plain n = omega arith

@@ -8,7 +8,7 @@ use Rattle.std.proofs.lemmas.Option.{slice_get_cases}
 use Rattle.dh_plan.specs.declared.operations.Operation.{Operation}
 use Rattle.dh_plan.specs.declared.operations.PlanBlock.{PlanBlock}
 use Rattle.dh_plan.specs.declared.schedules.Limits.{Limits}
-use Rattle.dh_plan.specs.LegalSchedules.{Timing, there_at, last_clock, clocks_in, IsLegal}
+use Rattle.dh_plan.specs.LegalSchedules.{Timing, there_at, last_clock, clocks_in, IsLegal, NeedsAreMet}
 use Rattle.dh_plan.specs.PlainPlans.{Node, block_node, turns_node, loop_node, choice_node, threads_node, Nodes, no_nodes, node_then, NodeLists, no_lists, list_then, PlainPlan, first_in, block_operations, operations_in}
 use Rattle.dh_plan.specs.PlanKinds.{Names}
 use Rattle.dh_plan.specs.PlanRuns.{PlanTodo, ended, blocks_at, blocks_at_all}
@@ -17,7 +17,6 @@ use Rattle.dh_plan.specs.SoundPlans.{Counting, IsOneOf, IsStepOf, IsStepOfNode, 
 use Rattle.dh_plan.specs.Ways.{GraphStop, GraphSpot, rests, in_state, in_fork, Spots, no_spots, spot_then, place_of_spot, places_of_spots}
 use Rattle.dh_plan.proofs.LeastLengths.{clocks_long}
 use Rattle.dh_plan.proofs.ValuesAlike.{all_left, all_right}
-use Rattle.dh_lower.specs.ShownWords.{StandsByNeeds}
 use Rattle.dh_lower.specs.SpotsDone.{blocks_of_spot, blocks_of_spots}
 use Rattle.dh_lower.proofs.ValuesShown.{there_later}
 
@@ -104,7 +103,7 @@ module _ (plan : PlainPlan) (limits : Limits) (t : Timing) (legal : IsLegal plan
       none_long [] (c ∷ cs) none = refl
       none_long (o ∷ os) cs none = absurd (cc)
 
-  pub stands_by_needs : (b : ℕ) → StandsByNeeds (first_in plan b) (operations_in plan b) (clocks_in plan t b)
+  pub stands_by_needs : (b : ℕ) → NeedsAreMet (first_in plan b) (operations_in plan b) (clocks_in plan t b)
   stands_by_needs b i o at = elim (cases_lt b (length plan.blocks)) [
     | inl inside ↦ (legal.blocks b inside).needs i o at
     | inr past ↦ absurd (let none = none_beyond plan.blocks b past in let f : None ≡ Some o = sym (ap (λ (os : List Operation). slice_get os i) none) ∙ at in cc)

@@ -26,20 +26,21 @@ use Rattle.dh_plan.specs.SoundPlans.{use_in, HasUse, IsListed}
 use Rattle.dh_plan.specs.Ways as graph
 use Rattle.dh_plan.specs.Ways.{rests, in_state, in_fork}
 use Rattle.dh_plan.proofs.StoringSound.{storing_table}
-use Rattle.dh_lower.specs.ExampleNets.{stored_row, store_plan, the_user, store_users, store_making, sized, bit, store_cells, store_driver, store_net, store_holds}
+use Rattle.dh_lower.specs.ExampleNets.{stored_row, store_plan, the_user, store_users, store_making, bit_register, store_cells, store_driver, store_net, store_holds}
 use Rattle.dh_lower.specs.NetOfPlan.{words_of, fault_seen, moment_at, spot_length, ShowsAtClock, ShowsOver, IsNetOf}
 use Rattle.dh_lower.specs.PortUsers.{User, HasUser, AreApart, AreUsers, DrivesFor, DriveFor}
 use Rattle.dh_lower.specs.ShownWords.{in_ports, port_bound}
 use Rattle.dh_lower.specs.SpotsDone.{blocks_of_spot}
+use Rattle.dh_net.specs.Parts.{one_cell}
 
 -- The net is valid.
 
 store_registers : (i : ℕ) (r : Register) → slice_get store_net.registers i ≡ Some r → IsRegister store_cells r
 store_registers zero r at =
-    let same : bit 1 ≡ r = cc in
+    let same : bit_register 1 ≡ r = cc in
     subst (λ (x : Register). IsRegister store_cells x) same (record { least = (let a : 1 ≤ 1 = omega arith in a); greatest = (let a : 1 ≤ 64 = omega arith in a); initial = (let a : 0 < 2 = omega arith in a); next = refl })
 store_registers (suc zero) r at =
-    let same : bit 3 ≡ r = cc in
+    let same : bit_register 3 ≡ r = cc in
     subst (λ (x : Register). IsRegister store_cells x) same (record { least = (let a : 1 ≤ 1 = omega arith in a); greatest = (let a : 1 ≤ 64 = omega arith in a); initial = (let a : 0 < 2 = omega arith in a); next = refl })
 store_registers (suc (suc i)) r at = absurd (let f : None ≡ Some r = at in cc)
 
@@ -169,18 +170,18 @@ record Wires (state tick : ℕ) (wires : List ℕ) : Type 0 where
 
 store_wires_are : (state tick : ℕ) (s : State) (wires : List ℕ) → s.registers ≡ state ∷ tick ∷ [] → IsValuation store_net.table store_cells s.registers s.held wires → Wires state tick wires
 store_wires_are state tick s wires registers v =
-    let first : slice_index wires 0 ≡ state = v.each 0 (sized 1 (cell.Reg 0)) refl ∙ ap (λ (rs : List ℕ). slice_index rs 0) registers in
-    let second : slice_index wires 2 ≡ 0 = v.each 2 (sized 1 (cell.Const 0)) refl in
+    let first : slice_index wires 0 ≡ state = v.each 0 (one_cell 1 (cell.Reg 0)) refl ∙ ap (λ (rs : List ℕ). slice_index rs 0) registers in
+    let second : slice_index wires 2 ≡ 0 = v.each 2 (one_cell 1 (cell.Const 0)) refl in
     record {
       state_wire = first;
-      one_wire = v.each 1 (sized 1 (cell.Const 1)) refl;
+      one_wire = v.each 1 (one_cell 1 (cell.Const 1)) refl;
       zero_wire = second;
       step_wire =
-          v.each 3 (sized 1 (cell.Eq 0 2)) refl
+          v.each 3 (one_cell 1 (cell.Eq 0 2)) refl
           ∙ (ap (λ (n : ℕ). if n == slice_index wires 2 then 1 else 0) first ∙ ap (λ (n : ℕ). if state == n then 1 else 0) second);
-      seven_wire = v.each 4 (sized 8 (cell.Const 7)) refl;
-      tick_wire = v.each 5 (sized 1 (cell.Reg 1)) refl ∙ ap (λ (rs : List ℕ). slice_index rs 1) registers;
-      fault_wire = v.each 6 (sized 32 (cell.Const 0)) refl;
+      seven_wire = v.each 4 (one_cell 8 (cell.Const 7)) refl;
+      tick_wire = v.each 5 (one_cell 1 (cell.Reg 1)) refl ∙ ap (λ (rs : List ℕ). slice_index rs 1) registers;
+      fault_wire = v.each 6 (one_cell 32 (cell.Const 0)) refl;
     }
 
 -- In the step.

@@ -15,6 +15,7 @@ use Rattle.dh_plan.specs.PlainPlans.{block_node, PlainPlan}
 use Rattle.dh_plan.specs.Ways.{to_state, to_end, Flow, rests, in_state, in_fork}
 use Rattle.dh_lower.specs.NetOfPlan.{Making, RegisterMeaning}
 use Rattle.dh_lower.specs.PortUsers.{User}
+use Rattle.dh_net.specs.Parts.{one_cell}
 
 abbrev pub stored_row : Reach
 stored_row = record { access = 0; memory = 0; indices = []; steps = []; banks = one_bank; select = None; row = Some 1 }
@@ -54,17 +55,14 @@ store_making = record {
   users = store_users;
 }
 
-abbrev pub sized : (width : ℕ) → CellForm → Cell
-sized width form = record { width = width; form = form }
-
-abbrev pub bit : (next : ℕ) → Register
-bit next = record { width = 1; initial = 0; next = next }
+abbrev pub bit_register : (next : ℕ) → Register
+bit_register next = record { width = 1; initial = 0; next = next }
 
 -- Register 0 is 0 before the step and 1 once it is done, register 1 is the tick. Wire 3 says that the step is done now.
 abbrev pub store_cells : List Cell
 store_cells =
-    sized 1 (cell.Reg 0) ∷ sized 1 (cell.Const 1) ∷ sized 1 (cell.Const 0) ∷ sized 1 (cell.Eq 0 2) ∷ sized 8 (cell.Const 7) ∷ sized 1 (cell.Reg 1)
-    ∷ sized 32 (cell.Const 0) ∷ []
+    one_cell 1 (cell.Reg 0) ∷ one_cell 1 (cell.Const 1) ∷ one_cell 1 (cell.Const 0) ∷ one_cell 1 (cell.Eq 0 2) ∷ one_cell 8 (cell.Const 7) ∷ one_cell 1 (cell.Reg 1)
+    ∷ one_cell 32 (cell.Const 0) ∷ []
 
 abbrev pub store_driver : Driver
 store_driver = record { enable = 3; write = true; row = 1; data_ = 4 }
@@ -73,7 +71,7 @@ abbrev pub store_net : Net
 store_net = record {
   table = line 65 8 2 ∷ [];
   faults = [];
-  registers = bit 1 ∷ bit 3 ∷ [];
+  registers = bit_register 1 ∷ bit_register 3 ∷ [];
   cells = store_cells;
   drivers = (store_driver ∷ []) ∷ [];
   tick = 5;

@@ -16,9 +16,9 @@ use Rattle.dh_plan.specs.declared.operations.Reach.{Reach}
 use Rattle.dh_plan.specs.ExamplePlans.{dim, memory, always, constant, block, nodes}
 use Rattle.dh_plan.specs.PlainPlans.{block_node, PlainPlan}
 use Rattle.dh_plan.specs.Ways.{to_state, to_end, rests, in_state, in_fork}
-use Rattle.dh_lower.specs.ExampleNets.{sized}
 use Rattle.dh_lower.specs.NetOfPlan.{Making, RegisterMeaning}
 use Rattle.dh_lower.specs.PortUsers.{User}
+use Rattle.dh_net.specs.Parts.{one_cell}
 
 abbrev pub picked_row : Reach
 picked_row = record { access = 0; memory = 0; indices = []; steps = []; banks = (0, 0) ∷ (1, 0) ∷ []; select = Some 0; row = Some 1 }
@@ -69,14 +69,14 @@ register_of width next = record { width = width; initial = 0; next = next }
 -- being done, 8 that this is its last clock, 14 that it is the first; 11 and 15 say which bank is picked.
 abbrev pub read_cells : List Cell
 read_cells =
-    sized 1 (cell.Reg 0) ∷ sized 1 (cell.Reg 1) ∷ sized 1 (cell.Reg 2) ∷ sized 1 (cell.Reg 3) ∷ sized 8 (cell.Reg 4)
-    ∷ sized 1 (cell.Const 0) ∷ sized 1 (cell.Const 1)
-    ∷ sized 1 (cell.Eq 0 5) ∷ sized 1 (cell.Mux 7 1 5)
-    ∷ sized 8 (cell.Data 0 0 0) ∷ sized 8 (cell.Data 0 1 0) ∷ sized 1 (cell.Eq 3 6) ∷ sized 8 (cell.Mux 11 10 9)
-    ∷ sized 1 (cell.Eq 1 5) ∷ sized 1 (cell.Mux 7 13 5)
-    ∷ sized 1 (cell.Eq 3 5) ∷ sized 1 (cell.Mux 14 15 5) ∷ sized 1 (cell.Mux 14 11 5)
-    ∷ sized 1 (cell.Mux 7 8 6) ∷ sized 8 (cell.Mux 8 12 4)
-    ∷ sized 32 (cell.Const 0) ∷ []
+    one_cell 1 (cell.Reg 0) ∷ one_cell 1 (cell.Reg 1) ∷ one_cell 1 (cell.Reg 2) ∷ one_cell 1 (cell.Reg 3) ∷ one_cell 8 (cell.Reg 4)
+    ∷ one_cell 1 (cell.Const 0) ∷ one_cell 1 (cell.Const 1)
+    ∷ one_cell 1 (cell.Eq 0 5) ∷ one_cell 1 (cell.Mux 7 1 5)
+    ∷ one_cell 8 (cell.Data 0 0 0) ∷ one_cell 8 (cell.Data 0 1 0) ∷ one_cell 1 (cell.Eq 3 6) ∷ one_cell 8 (cell.Mux 11 10 9)
+    ∷ one_cell 1 (cell.Eq 1 5) ∷ one_cell 1 (cell.Mux 7 13 5)
+    ∷ one_cell 1 (cell.Eq 3 5) ∷ one_cell 1 (cell.Mux 14 15 5) ∷ one_cell 1 (cell.Mux 14 11 5)
+    ∷ one_cell 1 (cell.Mux 7 8 6) ∷ one_cell 8 (cell.Mux 8 12 4)
+    ∷ one_cell 32 (cell.Const 0) ∷ []
 
 abbrev pub read_driver : (enable : ℕ) → Driver
 read_driver enable = record { enable = enable; write = false; row = 5; data_ = 0 }

@@ -24,14 +24,14 @@ abbrev pub PortsRise : List KeyedPut → Type 0
 PortsRise [] = Unit {0}
 PortsRise (k ∷ ks) = RisesBefore k ks × PortsRise ks
 
-abbrev pub IsPut : KeyedPut → List KeyedPut → Type 0
-IsPut k [] = ⊥
-IsPut k (l ∷ ls) = (k ≡ l) ⊎ IsPut k ls
+abbrev pub IsAmongPuts : KeyedPut → List KeyedPut → Type 0
+IsAmongPuts k [] = ⊥
+IsAmongPuts k (l ∷ ls) = (k ≡ l) ⊎ IsAmongPuts k ls
 
 -- the same writes
 pub record SamePuts (ks ls : List KeyedPut) : Type 0 where
-  pub first_in_second : (k : KeyedPut) → IsPut k ks → IsPut k ls
-  pub second_in_first : (k : KeyedPut) → IsPut k ls → IsPut k ks
+  pub first_in_second : (k : KeyedPut) → IsAmongPuts k ks → IsAmongPuts k ls
+  pub second_in_first : (k : KeyedPut) → IsAmongPuts k ls → IsAmongPuts k ks
 
 -- lists of the same writes, each with rising ports, leave the same memories
 abbrev pub PutsCommute : Type 0

@@ -15,7 +15,7 @@ use Rattle.dh_plan.specs.PlainPlans.{PlainPlan, first_in}
 use Rattle.dh_plan.specs.Blocks.{StepStart, Look, is_on, first_listed_bank, bank_picked, in_memories, AreValues}
 use Rattle.dh_plan.specs.BlockLaws.{LooksBack}
 use Rattle.dh_plan.specs.BoundPorts.{Uses, port_used}
-use Rattle.dh_plan.specs.LegalSchedules.{needed_clock}
+use Rattle.dh_plan.specs.LegalSchedules.{needed_clock, NeedsAreMet}
 use Rattle.dh_plan.specs.Ordered.{IsOrdered}
 use Rattle.dh_plan.specs.PlanKinds.{kinds_of}
 
@@ -67,16 +67,12 @@ pub record ReadsAreMade (s : StepStart) (look : Look) (first : ℕ) (os : List O
   pub each : (i : ℕ) (guard : Option ℕ) (r : Reach) → slice_get os i ≡ Some (record { guard = guard; form = Read r }) → is_on first vs guard ≡ true
       → slice_index clocks i < clock → look (first + i) r vs ≡ in_memories s first (first + i) r vs
 
--- each operation stands where all is there that it takes
-abbrev pub StandsByNeeds : (first : ℕ) → List Operation → (clocks : List ℕ) → Type 0
-StandsByNeeds first os clocks = (i : ℕ) (o : Operation) → slice_get os i ≡ Some o → needed_clock first os clocks o ≤ slice_index clocks i
-
 -- A block at a clock of its step: `us` are the words that are shown, by a look at ports, and `vs` those that are
 -- meant, by memories.
 pub record IsAtClock (s : StepStart) (look : Look) (first : ℕ) (os : List Operation) (clocks : List ℕ) (us vs : List Word) (clock : ℕ) : Type 0 where
   pub ordered : IsOrdered first os
   pub back : LooksBack look first
-  pub needs : StandsByNeeds first os clocks
+  pub needs : NeedsAreMet first os clocks
   pub shown : AreValues s look first os us
   pub meant : AreValues s (in_memories s first) first os vs
   pub made : ReadsAreMade s look first os clocks vs clock

@@ -17,7 +17,7 @@ use Rattle.dh_tree.specs.LeastBreach.{least_of}
 use Rattle.dh_tree.specs.Seen.{action_seen, action_form_seen, actions, groups, part_seen, all_parts_seen, counts_seen, defined_seen, program_seen}
 use Rattle.dh_tree.specs.Forms.{unbuilt, unbuilt_action, unbuilt_form, unbuilt_other, unbuilt_part, unbuilt_groups, unbuilt_functions, unbuilt_forms, has_dashes, holds_steps, form_holds, other_holds, part_holds, groups_hold}
 use Rattle.dh_tree.proofs.Leasts.{least_append}
-use Rattle.dh_names.specs.NotBuilt.{Keeps, KeepsCommand, KeepsForm, KeepsPart}
+use Rattle.dh_names.specs.NotBuilt.{KeepsLeastUnbuilt, KeepsCommand, KeepsForm, KeepsPart}
 
 -- two lists, one after the other
 two_kept : (kept first second : Option Breach) (xs ys : List Breach) → first ≡ least_of kept xs → second ≡ least_of first ys → second ≡ least_of kept (xs ++ ys)
@@ -33,8 +33,8 @@ or_none false = refl
 
 -- a form by what it is seen as
 pub form_kept : (place : Place) (f g : CommandForm) (a : ActionForm) (old new : Option Breach) (steps : Bool) → f ≡ g → action_form_seen g ≡ a
-    → Keeps old new steps (unbuilt_form place a) (form_holds a) → KeepsForm old new steps place f
-form_kept place f g a old new steps is seen h = subst (λ x. Keeps old new steps (unbuilt_form place x) (form_holds x)) (sym (ap action_form_seen is ∙ seen)) h
+    → KeepsLeastUnbuilt old new steps (unbuilt_form place a) (form_holds a) → KeepsForm old new steps place f
+form_kept place f g a old new steps is seen h = subst (λ x. KeepsLeastUnbuilt old new steps (unbuilt_form place x) (form_holds x)) (sym (ap action_form_seen is ∙ seen)) h
 
 -- a command that is another one
 pub command_at : (old new : Option Breach) (steps : Bool) (x y : Command) → x ≡ y → KeepsCommand old new steps x → KeepsCommand old new steps y
@@ -42,7 +42,7 @@ command_at old new steps x y is h = subst (λ z. KeepsCommand old new steps z) i
 
 pub decides_kept : (place : Place) (f g : CommandForm) (test : Term) (a : Action) (o : MaybeAction) (first mid last : Option Breach) (chosen others : Bool)
     → f ≡ g → action_form_seen g ≡ decides test a o
-    → Keeps first mid chosen (unbuilt_action a) (holds_steps a) → Keeps mid last others (unbuilt_other o) (other_holds o) → KeepsForm first last (chosen || others) place f
+    → KeepsLeastUnbuilt first mid chosen (unbuilt_action a) (holds_steps a) → KeepsLeastUnbuilt mid last others (unbuilt_other o) (other_holds o) → KeepsForm first last (chosen || others) place f
 decides_kept place f g test a o first mid last chosen others is seen one two =
     form_kept place f g (decides test a o) first last (chosen || others) is seen (record {
       kept = two_kept first mid last (unbuilt_action a) (unbuilt_other o) one.kept two.kept;
@@ -50,12 +50,12 @@ decides_kept place f g test a o first mid last chosen others is seen one two =
     })
 
 pub repeats_kept : (place : Place) (f g : CommandForm) (test : Term) (a : Action) (first last : Option Breach) (steps : Bool)
-    → f ≡ g → action_form_seen g ≡ repeats test a → Keeps first last steps (unbuilt_action a) (holds_steps a) → KeepsForm first last true place f
+    → f ≡ g → action_form_seen g ≡ repeats test a → KeepsLeastUnbuilt first last steps (unbuilt_action a) (holds_steps a) → KeepsForm first last true place f
 repeats_kept place f g test a first last steps is seen one = form_kept place f g (repeats test a) first last true is seen (record { kept = one.kept; told = refl })
 
 pub counts_kept : (place : Place) (f g : CommandForm) (h : LoopHeader) (a : Action) (o : MaybeAction) (first mid last : Option Breach) (steps folds : Bool)
     → f ≡ g → action_form_seen g ≡ counts_seen h a o
-    → Keeps first mid steps (unbuilt_action a) (holds_steps a) → Keeps mid last folds (unbuilt_other o) (other_holds o) → KeepsForm first last true place f
+    → KeepsLeastUnbuilt first mid steps (unbuilt_action a) (holds_steps a) → KeepsLeastUnbuilt mid last folds (unbuilt_other o) (other_holds o) → KeepsForm first last true place f
 counts_kept place f g h a o first mid last steps folds is seen one two =
     form_kept place f g (counts_seen h a o) first last true is seen (record { kept = two_kept first mid last (unbuilt_action a) (unbuilt_other o) one.kept two.kept; told = refl })
 

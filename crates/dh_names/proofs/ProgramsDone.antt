@@ -14,7 +14,7 @@ use Rattle.dh_tree.specs.Scopes.{ScopeEntry, Scope, at_end, after_function, afte
 use Rattle.dh_tree.specs.Breaches.{breaches, functions_breaches, items_breaches, breaches_of}
 use Rattle.dh_tree.specs.Resolved.{resolved_action, resolved_decls, resolved_functions, resolved}
 use Rattle.dh_tree.specs.NameCounts.{declared_in, declared_in_functions, HasFewNames}
-use Rattle.dh_names.specs.Walks.{State, Room, Resolves}
+use Rattle.dh_names.specs.Walks.{NamingState, HasRoomToDeclare, Resolves}
 use Rattle.dh_names.specs.Programs.{ResolvesFunctions, ResolvesItems, left}
 use Rattle.dh_tree.proofs.Leasts.{least_append}
 use Rattle.dh_names.proofs.FunctionsDone.{length_map, function_counted}
@@ -38,7 +38,7 @@ all_left ds fs =
     let same : length ds + 0 ≡ length (map declared_seen ds) = omega (arith, e) in
     ap (λ n. merged (memory_items 0 (map declared_seen ds)) (function_items n (map defined_seen fs))) same
 
-pub functions_room : (p : Program) (s : State) → HasFewNames p → s.scope ≡ first_scope p → Room s (declared_in_functions p.functions)
+pub functions_room : (p : Program) (s : NamingState) → HasFewNames p → s.scope ≡ first_scope p → HasRoomToDeclare s (declared_in_functions p.functions)
 functions_room p s few is =
     let e : length s.scope.entities ≡ length (outer_entities p) = ap (λ x. length x.entities) is in
     let d = outer_counted p in omega (arith, few, e, d)
@@ -47,7 +47,7 @@ abbrev pub program : List Declared → List Defined → Action → List Entity �
 program ds fs b es = record { decls = ds; functions = fs; body = b; entities = es }
 
 -- the state before the program's body
-abbrev pub before_body : List ScopeEntry → List ScopeEntry → State → State
+abbrev pub before_body : List ScopeEntry → List ScopeEntry → NamingState → NamingState
 before_body outer top s = record { outer = outer; scope = record { visible = top; entities = s.scope.entities }; least = s.least }
 
 pub scope_is : (p : Program) (o w : List ScopeEntry) (es : List Entity) → o ≡ [] → w ≡ [] → es ≡ outer_entities p → record { visible = o ++ w; entities = es } ≡ first_scope p
@@ -71,7 +71,7 @@ start_scope tree o w es ds2 fs2 o_is w_is d2 f2 listed =
     ∙ ap (λ x. map (λ d. entity d.name Memory) (map declared_seen tree.decls.items) ++ map (λ f. entity f.name Function) (map defined_seen x)) f2)
 
 -- the walk over memories from outside and functions, whose calls saw lists that are those of the tree
-pub items_done : (tree : Tree) (s0 s1 : State) (first : Option Breach) (top vis : List ScopeEntry) (o w : List ScopeEntry) (ds1 ds2 : List Decl) (fs1 fs2 : List code.Function) (ds' : List Declared) (fs' : List Defined) (n : ℕ)
+pub items_done : (tree : Tree) (s0 s1 : NamingState) (first : Option Breach) (top vis : List ScopeEntry) (o w : List ScopeEntry) (ds1 ds2 : List Decl) (fs1 fs2 : List code.Function) (ds' : List Declared) (fs' : List Defined) (n : ℕ)
     → o ≡ [] → w ≡ [] → first ≡ None → vis ≡ [] → s0.scope.visible ≡ o ++ w
     → ds1 ≡ tree.decls.items → fs1 ≡ tree.functions.items → ds2 ≡ tree.decls.items → fs2 ≡ tree.functions.items → n ≡ length tree.decls.items
     → s0.scope.entities ≡ map (λ d. entity d.name Memory) (map declared_seen ds2) ++ map (λ f. entity f.name Function) (map defined_seen fs2)
@@ -96,9 +96,9 @@ items_done tree s0 s1 first top vis o w ds1 ds2 fs1 fs2 ds' fs' n o_is w_is none
           ∙ ap (λ k. least_of k (functions_breaches (length p.decls) (first_scope p) p.functions)) start;
     }
 
-module _ (p : Program) (s1 s3 : State) (outer top : List ScopeEntry) (ds' : List Declared) (fs' : List Defined) (b' : Action) (few : HasFewNames p) (items : ResolvesItems p s1 top ds' fs')
-    (body : Room (before_body outer top s1) (declared_in p.body) → Resolves (before_body outer top s1) s3 p.body b') where
-  room : Room (before_body outer top s1) (declared_in p.body)
+module _ (p : Program) (s1 s3 : NamingState) (outer top : List ScopeEntry) (ds' : List Declared) (fs' : List Defined) (b' : Action) (few : HasFewNames p) (items : ResolvesItems p s1 top ds' fs')
+    (body : HasRoomToDeclare (before_body outer top s1) (declared_in p.body) → Resolves (before_body outer top s1) s3 p.body b') where
+  room : HasRoomToDeclare (before_body outer top s1) (declared_in p.body)
   room =
       let e : length s1.scope.entities ≡ length (after_functions (length p.decls) (first_scope p) p.functions).entities = ap (λ l. length l) items.entities in
       let f = functions_counted (length p.decls) (first_scope p) p.functions in

@@ -17,33 +17,33 @@ use Rattle.dh_tree.specs.LeastBreach.{is_before, breach, least_of, IsLeast}
 use Rattle.dh_tree.specs.Scopes.{ScopeEntry, entity_of, bind, entity, Item, memory_items, function_items, merged, items_of, after_items, Scope, first_scope, after_formals, after_function, after_functions}
 use Rattle.dh_tree.specs.Breaches.{breaches_of, KeepsNames, twice, items_breaches, formals_breaches, function_breaches, functions_breaches}
 use Rattle.dh_tree.specs.Resolved.{resolved, resolved_decls, resolved_formals, resolved_function, resolved_functions}
-use Rattle.dh_tree.specs.NameCounts.{declared_in, declared_in_functions, names_declared}
+use Rattle.dh_tree.specs.NameCounts.{declared_in, declared_in_functions, names_declared, declared_by}
 use Rattle.dh_tree.specs.Forms.{unbuilt_forms}
 use Rattle.dh_names.specs.Visible.{visible, LeastBy}
-use Rattle.dh_names.specs.Walks.{State, state_of, walked}
+use Rattle.dh_names.specs.Walks.{NamingState, state_of, walked}
 use Rattle.dh_names.specs.declared.scopes.Names.{Names}
 use Rattle.dh_names.specs.declared.walks.Walk.{Walk}
 use Rattle.dh_names.specs.declared.programs.Found.{Found}
 
 -- a walk over the parameters of a function
-pub record ResolvesFormals (old new : State) (a b : List Formal) : Type 0 where
+pub record ResolvesFormals (old new : NamingState) (a b : List Formal) : Type 0 where
   pub tree : b ≡ resolved_formals old.scope a
   pub state : new ≡ walked old (formals_breaches old.scope a) (after_formals old.scope a)
 
 -- a point at which no name of a function is visible, but only what functions see of the program
-abbrev pub IsOutside : State → Type 0
+abbrev pub IsOutside : NamingState → Type 0
 IsOutside s = s.scope.visible ≡ s.outer
 
 -- the state between two functions
-abbrev pub between : State → Scope → Option Breach → State
+abbrev pub between : NamingState → Scope → Option Breach → NamingState
 between s to least = record { outer = to.visible; scope = to; least = least }
 
 -- a walk over a function that is entity number n
-pub record ResolvesFunction (n : ℕ) (old new : State) (a b : Defined) : Type 0 where
+pub record ResolvesFunction (n : ℕ) (old new : NamingState) (a b : Defined) : Type 0 where
   pub tree : b ≡ resolved_function n old.scope a
   pub state : new ≡ between old (after_function n old.scope a) (least_of old.least (function_breaches old.scope a))
 
-pub record ResolvesFunctions (n : ℕ) (old new : State) (a b : List Defined) : Type 0 where
+pub record ResolvesFunctions (n : ℕ) (old new : NamingState) (a b : List Defined) : Type 0 where
   pub tree : b ≡ resolved_functions n old.scope a
   pub state : new ≡ between old (after_functions n old.scope a) (least_of old.least (functions_breaches n old.scope a))
 
@@ -58,10 +58,7 @@ NumbersFunction n old new a b = ResolvesFunction n (state_of old) (state_of new)
 abbrev pub NumbersFunctions : ℕ → (old new : Walk) → (a b : Vec Function Global) → Type 0
 NumbersFunctions n old new a b = ResolvesFunctions n (state_of old) (state_of new) (map defined_seen a.items) (map defined_seen b.items)
 
--- how many names a function declares, and functions
-abbrev pub declared_by : Function → ℕ
-declared_by f = length f.parameters.items + declared_in (action_seen f.body)
-
+-- how many names functions declare
 abbrev pub declared_by_all : Vec Function Global → ℕ
 declared_by_all functions = declared_in_functions (map defined_seen functions.items)
 
@@ -131,10 +128,10 @@ FindsTwice decls functions names old new = LeastBy items_breaches names old new 
 
 -- a program is answered by its tree with entities where no name breaks a rule, and else by the breach
 -- that stands first; for want of memory it may have no answer, where it declares a name
-abbrev pub Answers : Program → Result Named PassFault → Type 0
-Answers p (Ok named) = (program_seen named ≡ resolved p) × KeepsNames p
-Answers p (Err (fault.Refused rule place)) = IsLeast (breaches_of p) (breach rule place)
-Answers p (Err fault.NoMemory) = 0 < names_declared p
+abbrev pub ResolvesProgram : Program → Result Named PassFault → Type 0
+ResolvesProgram p (Ok named) = (program_seen named ≡ resolved p) × KeepsNames p
+ResolvesProgram p (Err (fault.Refused rule place)) = IsLeast (breaches_of p) (breach rule place)
+ResolvesProgram p (Err fault.NoMemory) = 0 < names_declared p
 
 -- the same of a program whose forms are all built; any other is answered by the form that stands first of those
 -- that are not
@@ -154,7 +151,7 @@ pub record IsStart (w : Walk) (top : Names) : Type 0 where
 
 -- a walk over the memories from outside and the functions of a program from there on, with the names that are
 -- visible behind them
-pub record ResolvesItems (p : Program) (new : State) (top : List ScopeEntry) (ds : List Declared) (fs : List Defined) : Type 0 where
+pub record ResolvesItems (p : Program) (new : NamingState) (top : List ScopeEntry) (ds : List Declared) (fs : List Defined) : Type 0 where
   pub decls : ds ≡ resolved_decls 0 p.decls
   pub functions : fs ≡ resolved_functions (length p.decls) (first_scope p) p.functions
   pub names : top ≡ after_items [] (items_of p)
@@ -173,7 +170,7 @@ pub record IsWalked (p : Program) (new : Tree) (found : Found) : Type 0 where
   pub unbuilt : found.unbuilt ≡ least_of None (unbuilt_forms p)
 
 -- a tree whose names are resolved is answered, where there is no breach of them, and else the breach is
-abbrev pub Settles : Tree → Option Breach → Result Named PassFault → Type 0
-Settles tree least (Ok named) = (named ≡ tree) × (least ≡ None)
-Settles tree least (Err (fault.Refused rule place)) = least ≡ Some (breach rule place)
-Settles tree least (Err fault.NoMemory) = ⊥
+abbrev pub SettlesNames : Tree → Option Breach → Result Named PassFault → Type 0
+SettlesNames tree least (Ok named) = (named ≡ tree) × (least ≡ None)
+SettlesNames tree least (Err (fault.Refused rule place)) = least ≡ Some (breach rule place)
+SettlesNames tree least (Err fault.NoMemory) = ⊥

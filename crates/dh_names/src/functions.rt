@@ -2,8 +2,9 @@
 
 ghost use Rattle.std.specs.Prelude.{◌≡◌, ◌+◌, ◌<◌, ◌^◌, OnOk, MatchResult, length};
 ghost use Rattle.dh_tree.specs.Scopes.{formal_sort};
-ghost use Rattle.dh_names.specs.Walks.{Room, state_of};
-ghost use Rattle.dh_names.specs.Programs.{IsOutside, NumbersParameters, NumbersFunction, NumbersFunctions, declared_by, declared_by_all};
+ghost use Rattle.dh_names.specs.Walks.{HasRoomToDeclare, state_of};
+ghost use Rattle.dh_names.specs.Programs.{IsOutside, NumbersParameters, NumbersFunction, NumbersFunctions, declared_by_all};
+ghost use Rattle.dh_tree.specs.NameCounts.{declared_by};
 
 use crate::walks::Walk;
 use dh_base::NoMemory;
@@ -23,7 +24,7 @@ fn sort_of(parameter: &Parameter) -> Sort
 impl Walk {
     // The parameters in order.
     fn parameters(&mut self, alloc: Global, parameters: &mut Vec<Parameter>) -> Result<(), NoMemory>
-        requires { Room (state_of self.old) (length parameters.old.items) }
+        requires { HasRoomToDeclare (state_of self.old) (length parameters.old.items) }
         ensures { MatchResult result
             (λ _. NumbersParameters self.old self.new parameters.old parameters.new)
             (λ _. 0 < length parameters.old.items) }
@@ -44,7 +45,7 @@ impl Walk {
         number: u32,
     ) -> Result<(), NoMemory>
         requires outside { IsOutside (state_of self.old) }
-        requires room { Room (state_of self.old) (declared_by function.old) }
+        requires room { HasRoomToDeclare (state_of self.old) (declared_by function.old) }
         ensures { OnOk result (NumbersFunction number self.old self.new function.old function.new) }
     {
         function.name.entity = Some(number);
@@ -64,7 +65,7 @@ impl Walk {
     ) -> Result<(), NoMemory>
         requires outside { IsOutside (state_of self.old) }
         requires few { first + length functions.old.items < 2 ^ 32 }
-        requires room { Room (state_of self.old) (declared_by_all functions.old) }
+        requires room { HasRoomToDeclare (state_of self.old) (declared_by_all functions.old) }
         ensures { MatchResult result
             (λ _. NumbersFunctions first self.old self.new functions.old functions.new)
             (λ _. 0 < length functions.old.items) }

@@ -6,7 +6,7 @@ ghost use Rattle.dh_base.specs.declared.faults.PassFault.TheVariants as fault;
 ghost use Rattle.dh_tree.specs.Breaches.{KeepsNames};
 ghost use Rattle.dh_tree.specs.Resolved.{HasEntities};
 ghost use Rattle.dh_tree.specs.NameCounts.{HasFewNames, names_declared};
-ghost use Rattle.dh_names.specs.Programs.{Answers, AnswersBuilt, IsStart, NumbersItems, IsWalked, Settles, entities_outside, NumbersMemories, is_function_first, AreLeft, BindsItem, LacksItem, BindsItems, FindsTwice};
+ghost use Rattle.dh_names.specs.Programs.{ResolvesProgram, AnswersBuilt, IsStart, NumbersItems, IsWalked, SettlesNames, entities_outside, NumbersMemories, is_function_first, AreLeft, BindsItem, LacksItem, BindsItems, FindsTwice};
 
 use crate::bindings::Bindings;
 use crate::forms::keep_functions;
@@ -198,7 +198,7 @@ fn starved(tree: Tree) -> PassFault
 fn named(tree: Tree, least: Option<Breach>) -> Result<Named, PassFault>
     requires names { least ≡ None → KeepsNames (program_seen tree) }
     requires entities { HasEntities (program_seen tree) }
-    ensures { Settles tree least result }
+    ensures { SettlesNames tree least result }
 {
     match least {
         Some(breach) => Err(refused(tree, breach)),
@@ -216,7 +216,7 @@ fn named(tree: Tree, least: Option<Breach>) -> Result<Named, PassFault>
 /// declaration. `NoMemory` where an allocation was refused; a tree that declares no name takes none.
 pub fn resolve(alloc: Global, tree: Tree) -> Result<Named, PassFault>
     requires few { HasFewNames (program_seen tree) }
-    ensures { Answers (program_seen tree) result }
+    ensures { ResolvesProgram (program_seen tree) result }
 {
     let mut tree = tree;
     match walk_program(alloc, &mut tree) {

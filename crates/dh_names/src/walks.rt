@@ -6,7 +6,7 @@ ghost use Rattle.dh_tree.specs.Breaches.{unknown, term_breaches, maybe_value_bre
 ghost use Rattle.dh_tree.specs.Resolved.{used};
 ghost use Rattle.dh_names.specs.Visible.{visible};
 ghost use Rattle.dh_names.specs.InTrees.{ResolvesTerm, ResolvesTerms, ResolvesValue};
-ghost use Rattle.dh_names.specs.Walks.{state_of, cut, FindsBy, NumbersName, NumbersHeader, NumbersSides, DeclaresName, DeclaresIterator};
+ghost use Rattle.dh_names.specs.Walks.{state_of, cut_to_own_names, FindsBy, NumbersName, NumbersHeader, NumbersSides, DeclaresName, DeclaresIterator};
 
 use crate::expressions::{resolve_term, resolve_terms};
 use crate::scopes::{Names, bind_name, list_entity, resolve_use};
@@ -98,7 +98,7 @@ impl Walk {
 
     /// Keeps so many names of the function or the program's body visible, those declared first.
     pub fn leave(&mut self, own: usize)
-        ensures { state_of self.new ≡ cut (state_of self.old) own }
+        ensures { state_of self.new ≡ cut_to_own_names (state_of self.old) own }
     {
         self.names.own.truncate(own);
     }

@@ -5,7 +5,7 @@ use Rattle.std.specs.Prelude.{nat_le}
 use Rattle.std.proofs.Common.{subst, inl, inr, false}
 use Rattle.std.proofs.lemmas.Bool.{leb-true, le-leb, cases_lt}
 use Rattle.std.proofs.Math.Pow.{pow-lt}
-use Rattle.dh_net.specs.RowWidths.{IsRowWidth, width_from, row_width_of}
+use Rattle.dh_net.specs.RowWidths.{IsRowWidth, row_width_from, row_width_of}
 
 -- two least widths are equal
 one_width : (rows a b : ℕ) → IsRowWidth rows a → IsRowWidth rows b → a ≡ b
@@ -33,11 +33,11 @@ next rows w e least v p q =
     let low : w ≤ v = least v p q in
     elim (cases_lt w v) [ inl small ↦ omega arith | inr large ↦ absurd (too_many rows w v e q (omega arith)) ]
 
-from_is : (n rows w : ℕ) → 1 ≤ w → rows ≤ 2 ^ (w + n) → ((v : ℕ) → 1 ≤ v → rows ≤ 2 ^ v → w ≤ v) → IsRowWidth rows (width_from n rows w)
+from_is : (n rows w : ℕ) → 1 ≤ w → rows ≤ 2 ^ (w + n) → ((v : ℕ) → 1 ≤ v → rows ≤ 2 ^ v → w ≤ v) → IsRowWidth rows (row_width_from n rows w)
 from_is zero rows w h all least = record { least = h; all = subst (λ (v : ℕ). rows ≤ 2 ^ v) (omega arith) all; none_less = least }
 from_is (suc n) rows w h all least = by_test (nat_le rows (2 ^ w)) refl (λ l. from_is n rows (w + 1) (omega arith) (subst (λ (v : ℕ). rows ≤ 2 ^ v) (omega arith) all) l)
   where
-    by_test : (t : Bool) → nat_le rows (2 ^ w) ≡ t → (((v : ℕ) → 1 ≤ v → rows ≤ 2 ^ v → w + 1 ≤ v) → IsRowWidth rows (width_from n rows (w + 1))) → IsRowWidth rows (if t then w else width_from n rows (w + 1))
+    by_test : (t : Bool) → nat_le rows (2 ^ w) ≡ t → (((v : ℕ) → 1 ≤ v → rows ≤ 2 ^ v → w + 1 ≤ v) → IsRowWidth rows (row_width_from n rows (w + 1))) → IsRowWidth rows (if t then w else row_width_from n rows (w + 1))
     by_test true e more = record { least = h; all = leb-true rows (2 ^ w) e; none_less = least }
     by_test false e more = more (next rows w e least)
 

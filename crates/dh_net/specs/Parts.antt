@@ -9,6 +9,10 @@ use Rattle.dh_net.specs.declared.nets.Register.{Register}
 use Rattle.dh_net.specs.declared.ports.Port.{Port}
 use Rattle.dh_net.specs.Valid.{HasWidth, FormFits, IsCell, IsDriver, IsRegister}
 
+-- a cell of this width and form
+abbrev pub one_cell : (width : ℕ) → CellForm → Cell
+one_cell width form = record { width = width; form = form }
+
 -- there is such a register, of this width
 abbrev pub HasRegister : List Register → (register width : ℕ) → Type 0
 HasRegister registers register width = option_map (λ r. r.width) (slice_get registers register) ≡ Some width
@@ -26,8 +30,8 @@ abbrev pub HasCells : Net → Type 0
 HasCells net = (i : ℕ) (c : Cell) → slice_get net.cells i ≡ Some c → IsCell net.table net.registers net.cells i c
 
 -- all registers of the net are
-abbrev pub HasRegisters : Net → Type 0
-HasRegisters net = (i : ℕ) (r : Register) → slice_get net.registers i ≡ Some r → IsRegister net.cells r
+abbrev pub HasValidRegisters : Net → Type 0
+HasValidRegisters net = (i : ℕ) (r : Register) → slice_get net.registers i ≡ Some r → IsRegister net.cells r
 
 -- all of these are drivers of the port
 abbrev pub DrivePort : List Cell → Port → List Driver → Type 0

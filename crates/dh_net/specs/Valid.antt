@@ -33,8 +33,8 @@ abbrev pub IsAnyOperand : List Cell → (cell wire : ℕ) → Type 0
 IsAnyOperand cells cell wire = (wide : ℕ) × IsOperand cells cell wire wide
 
 -- both wires are such operands, of one width
-abbrev pub AreAlike : List Cell → (cell a b : ℕ) → Type 0
-AreAlike cells cell a b = (wide : ℕ) × AreOperands cells cell a b wide
+abbrev pub AreSameWidthOperands : List Cell → (cell a b : ℕ) → Type 0
+AreSameWidthOperands cells cell a b = (wide : ℕ) × AreOperands cells cell a b wide
 
 -- the wire is such an operand, less wide than the cell
 abbrev pub IsNarrower : List Cell → (cell wire width : ℕ) → Type 0
@@ -66,9 +66,9 @@ FormFits table registers cells i width (Xor a b) = AreOperands cells i a b width
 FormFits table registers cells i width (Shl a b) = IsOperand cells i a width × IsAnyOperand cells i b
 FormFits table registers cells i width (ShrU a b) = IsOperand cells i a width × IsAnyOperand cells i b
 FormFits table registers cells i width (ShrS a b) = IsOperand cells i a width × IsAnyOperand cells i b
-FormFits table registers cells i width (LtU a b) = (width ≡ 1) × AreAlike cells i a b
-FormFits table registers cells i width (LtS a b) = (width ≡ 1) × AreAlike cells i a b
-FormFits table registers cells i width (Eq a b) = (width ≡ 1) × AreAlike cells i a b
+FormFits table registers cells i width (LtU a b) = (width ≡ 1) × AreSameWidthOperands cells i a b
+FormFits table registers cells i width (LtS a b) = (width ≡ 1) × AreSameWidthOperands cells i a b
+FormFits table registers cells i width (Eq a b) = (width ≡ 1) × AreSameWidthOperands cells i a b
 FormFits table registers cells i width (Mux c a b) = IsOperand cells i c 1 × AreOperands cells i a b width
 FormFits table registers cells i width (Zero a) = IsNarrower cells i a width
 FormFits table registers cells i width (Sign a) = IsNarrower cells i a width

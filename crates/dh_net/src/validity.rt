@@ -8,8 +8,8 @@ ghost use Rattle.dh_net.specs.BankPorts.{port_count, all_ports, ports_of};
 ghost use Rattle.dh_net.specs.Clock.{wire_width as width_at};
 ghost use Rattle.dh_extents.specs.Extents.{IsSmallMemory};
 ghost use Rattle.dh_net.specs.RowWidths.{IsRowWidth};
-ghost use Rattle.dh_net.specs.Valid.{HasWidth, IsOperand, IsAnyOperand, AreOperands, AreAlike, IsNarrower, IsWider, IsPort, IsRegister, IsDriver, IsValid};
-ghost use Rattle.dh_net.specs.Parts.{HasRegister, FitsIn, IsCellIn, HasCells, HasRegisters, DrivePort, DrivePorts, HasPorts, HasOutputs};
+ghost use Rattle.dh_net.specs.Valid.{HasWidth, IsOperand, IsAnyOperand, AreOperands, AreSameWidthOperands, IsNarrower, IsWider, IsPort, IsRegister, IsDriver, IsValid};
+ghost use Rattle.dh_net.specs.Parts.{HasRegister, FitsIn, IsCellIn, HasCells, HasValidRegisters, DrivePort, DrivePorts, HasPorts, HasOutputs};
 
 use crate::nets::{Cell, CellForm, Driver, Net, Register};
 use crate::ports::{Port, count_ports, memory_port};
@@ -67,7 +67,7 @@ fn are_operands(cells: &[Cell], cell: usize, a: u64, b: u64, width: u8) -> bool
 
 // Whether both wires are operands of one width.
 fn are_alike(cells: &[Cell], cell: usize, a: u64, b: u64) -> bool
-    ensures { IsTrue result ↔ AreAlike cells.now cell a b }
+    ensures { IsTrue result ↔ AreSameWidthOperands cells.now cell a b }
 {
     match cells.get(a as usize) {
         Some(left) => are_operands(cells, cell, a, b, left.width),
@@ -157,7 +157,7 @@ fn are_shifted(cells: &[Cell], cell: usize, a: u64, b: u64, width: u8) -> bool
 
 // Whether the wires are operands of a comparison in a cell of this width.
 fn are_compared(cells: &[Cell], cell: usize, a: u64, b: u64, width: u8) -> bool
-    ensures { IsTrue result ↔ ((width ≡ 1) × AreAlike cells.now cell a b) }
+    ensures { IsTrue result ↔ ((width ≡ 1) × AreSameWidthOperands cells.now cell a b) }
 {
     width == 1 && are_alike(cells, cell, a, b)
 }
@@ -229,7 +229,7 @@ fn is_register(cells: &[Cell], register: Register) -> bool
 
 // Whether all registers are.
 fn are_registers(net: &Net) -> bool
-    ensures { IsTrue result ↔ HasRegisters net.now }
+    ensures { IsTrue result ↔ HasValidRegisters net.now }
 {
     let cells = net.cells.as_slice();
     for register in net.registers.as_slice() {

@@ -17,7 +17,7 @@ use Rattle.dh_formed.specs.Timed.{BlockClocks, leveled}
 use Rattle.dh_expressions.specs.declared.scenes.Around.{Around}
 use Rattle.dh_expressions.specs.declared.scenes.Scene.{Scene}
 use Rattle.dh_expressions.specs.Evaluated.{known_in}
-use Rattle.dh_paced.specs.Assigned.{IsAssignedIn, IsAssignedInGroups, IsAssignedInOther, IsAssignedInPart, IsKept}
+use Rattle.dh_paced.specs.Assigned.{IsAssignedIn, IsAssignedInGroups, IsAssignedInOther, IsAssignedInPart, IsOffsetVariable}
 use Rattle.dh_paced.specs.Paced.{action_levels, between_arms, part_levels}
 use Rattle.dh_paced.specs.Standing.{IsTarget, OwnsGroups, OwnsIn, OwnsOther, OwnsPart, OwnsView}
 use Rattle.dh_paced.proofs.CoreAppended.{action_then_assigns, part_then_assigns}
@@ -89,7 +89,7 @@ module _ (scene : Scene) where
   store_assigns n e (plain.term place k (plain.converted inner to)) value h = untrue h
 
   -- a view gives values to what keeps its offsets
-  kept_true : (hs : List Hidden) (n e : ℕ) (offsets : List Term) → IsKept hs (length offsets) e → any_assigns e (kept_by hs (core_terms known n (terms offsets)) no_commands) ≡ true
+  kept_true : (hs : List Hidden) (n e : ℕ) (offsets : List Term) → IsOffsetVariable hs (length offsets) e → any_assigns e (kept_by hs (core_terms known n (terms offsets)) no_commands) ≡ true
   kept_true [] n e offsets h = absurd h
   kept_true (x ∷ xs) n e [] h = absurd (let f = h.0 in let b = h.1 in never x.entity f b)
     where
@@ -97,7 +97,7 @@ module _ (scene : Scene) where
       never k f b = omega (arith, f, b)
   kept_true (x ∷ xs) n e (t ∷ ts) h = or_false _ ∙ among_true x.entity (length (t ∷ ts)) (count_terms (core_terms known n (terms (t ∷ ts)))) e (offsets_long known n (t ∷ ts)) h
 
-  true_kept : (hs : List Hidden) (n e : ℕ) (offsets : List Term) → any_assigns e (kept_by hs (core_terms known n (terms offsets)) no_commands) ≡ true → IsKept hs (length offsets) e
+  true_kept : (hs : List Hidden) (n e : ℕ) (offsets : List Term) → any_assigns e (kept_by hs (core_terms known n (terms offsets)) no_commands) ≡ true → IsOffsetVariable hs (length offsets) e
   true_kept [] n e [] h = untrue h
   true_kept [] n e (t ∷ ts) h = untrue h
   true_kept (x ∷ xs) n e [] h = absurd (untrue h)
@@ -179,7 +179,7 @@ module _ (scene : Scene) where
 -- Targets.
 
 module _ (c : BlockClocks) (scene : Scene) (top : Around) (spaces : ℕ) (shared : ℕ → Option ℕ) (Variable Read Own : ℕ → Type 0) where
-  view_target : (hs : List Hidden) (outer n e : ℕ) (form : plain.ViewPlan) → OwnsView c scene top spaces shared Variable Read Own outer n hs form → IsKept hs (length (offsets_of form)) e → IsTarget c scene top spaces shared Variable Read Own e
+  view_target : (hs : List Hidden) (outer n e : ℕ) (form : plain.ViewPlan) → OwnsView c scene top spaces shared Variable Read Own outer n hs form → IsOffsetVariable hs (length (offsets_of form)) e → IsTarget c scene top spaces shared Variable Read Own e
   view_target [] outer n e form o h = absurd h
   view_target (x ∷ xs) outer n e form o h = (o.1 e h).0
 

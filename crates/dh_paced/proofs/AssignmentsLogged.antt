@@ -41,7 +41,7 @@ use Rattle.dh_commands.proofs.KeptWords.{holds_long}
 use Rattle.dh_laid.specs.LaidCommands.{AreLogged}
 use Rattle.dh_laid.proofs.ValuesLogged.{arm_back, arm_long, tests_same}
 use Rattle.dh_paced.specs.Standing.{IsUnder}
-use Rattle.dh_paced.specs.Assigned.{IsAssignedIn, IsAssignedInGroups, IsAssignedInOther, IsAssignedInPart, IsKept}
+use Rattle.dh_paced.specs.Assigned.{IsAssignedIn, IsAssignedInGroups, IsAssignedInOther, IsAssignedInPart, IsOffsetVariable}
 
 pub cases_last : (i n : ℕ) → i < suc n → (i < n) ⊎ (i ≡ n)
 cases_last i n less = split (cases_lt i n)
@@ -268,8 +268,8 @@ module _ (scene : Scene) (top : Around) where
                   subst (λ (k : ℕ). IsSet (front.logs.more ++ l.more) (register_in scene top e k)) (sym same)
                   (set_behind front.logs.more l.more (register_in scene top e n) (covers e may.0 (subst (λ (k : ℕ). e < entity + k) (sym (kept_long scene (lane_of around n) first entity offsets b new next one)) may.1)))
 
-  view_logged : (hs : List Hidden) (form : ViewPlan) (around : Around) (old new : Building) (first next : ℕ) → MadeView scene hs form around old new first next → IsUnder top around → HaveRoom (IsKept hs (length (offsets_of form))) old.values
-      → LogsOf (IsKept hs (length (offsets_of form))) old.values new.values
+  view_logged : (hs : List Hidden) (form : ViewPlan) (around : Around) (old new : Building) (first next : ℕ) → MadeView scene hs form around old new first next → IsUnder top around → HaveRoom (IsOffsetVariable hs (length (offsets_of form))) old.values
+      → LogsOf (IsOffsetVariable hs (length (offsets_of form))) old.values new.values
   view_logged [] form around old new first next m u room = logged_none (λ e. ⊥) (λ e h. h) old.values new.values (ap (λ (b : Building). b.values) m.still)
   view_logged (x ∷ xs) form around old new first next m u room =
       let l : LogsEach (IsVariableAmong x.entity (length (offsets_of form))) (paths_counted top) old.values new.values =

@@ -7,9 +7,9 @@ use Rattle.dh_meaning.specs.Ways.{Hidden, hidden_in}
 use Rattle.dh_commands.specs.Setting.{IsVariableAmong}
 
 -- a view gives values to the variables that keep its offsets, where one keeps an offset on its way
-abbrev pub IsKept : List Hidden → (count entity : ℕ) → Type 0
-IsKept [] count entity = ⊥
-IsKept (h ∷ hs) count entity = IsVariableAmong h.entity count entity
+abbrev pub IsOffsetVariable : List Hidden → (count entity : ℕ) → Type 0
+IsOffsetVariable [] count entity = ⊥
+IsOffsetVariable (h ∷ hs) count entity = IsVariableAmong h.entity count entity
 
 module _ (known : Known) where
   abbrev mutual
@@ -24,7 +24,7 @@ module _ (known : Known) where
     IsAssignedBy (decides test chosen other) entity = IsAssignedIn chosen entity ⊎ IsAssignedInOther other entity
     IsAssignedBy (blocks body) entity = IsAssignedInGroups body entity
     IsAssignedBy (lets_memory name shape shape_places value) entity = ⊥
-    IsAssignedBy (views name parent form) entity = IsKept (hidden_in (way_of known name)) (length (offsets_of form)) entity
+    IsAssignedBy (views name parent form) entity = IsOffsetVariable (hidden_in (way_of known name)) (length (offsets_of form)) entity
     IsAssignedBy (calls function arguments) entity = ⊥
     IsAssignedBy (repeats test body) entity = ⊥
     IsAssignedBy (counts iterator declared low high factor body combine combine_place) entity = ⊥

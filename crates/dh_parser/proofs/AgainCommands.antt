@@ -8,8 +8,8 @@ use Rattle.dh_parser.specs.declared.parsing.reading.Mark.TheVariants as mark
 use Rattle.dh_parser.specs.Marks.{comes}
 use Rattle.dh_parser.specs.Grammar.{element, physical, SimpleText, let_typed, let_value, view, assign, store, reduce, call, DeclaredText, no_declared, some_declared, UnrollText, no_unroll, some_unroll, HeadText, BlockText, block, PartsText, last_part, part_then, PartText, end_of_part, last_simple, simple_then, compound_then, semicolon_then, CompoundText, block_alone, if_alone, while_loop, for_loop, IfText, if_else, ElseText, no_else, else_block, else_if, CombineText, no_combine, some_combine}
 use Rattle.dh_parser.specs.Spelling.{put, put_number, spell_kind, spell, spell_simple, spell_declared, spell_unroll, spell_head, spell_block, spell_parts, spell_part, spell_compound, spell_if, spell_else, spell_combine}
-use Rattle.dh_parser.specs.Allowed.{DeclaredFits, BlockFits, PartsFit, PartFits, CompoundFits, IfFits, ElseFits, CombineFits}
-use Rattle.dh_parser.specs.Reading.{Outcome, good, bind, the, the_kind, steps, the_expression, the_simple, the_declared, the_unroll, the_head, the_if, the_combine, the_compound, begins_simple, begins_compound, begins_nothing, beginning, part_with, the_part, the_parts, read_block, the_block}
+use Rattle.dh_parser.specs.Allowed.{DeclaredFits, BlockFits, AllPartsFit, PartFits, CompoundFits, IfFits, ElseFits, CombineFits}
+use Rattle.dh_parser.specs.Reading.{Outcome, good, outcome_bind, the, the_kind, steps, the_expression, the_simple, the_declared, the_unroll, the_head, the_if, the_combine, the_compound, begins_simple, begins_compound, begins_nothing, beginning, part_with, the_part, the_parts, read_block, the_block}
 use Rattle.dh_parser.proofs.AgainExpressions.{next_is, unless, kind_again, longer, nothing_below, own, expression_again}
 use Rattle.dh_parser.proofs.StepsOfExpressions.{Left}
 use Rattle.dh_parser.proofs.StepsOfPrograms.{simple_left, head_left, blocks_left, compound_left, part_left}
@@ -151,7 +151,7 @@ mutual
       next_is (the_parts (read_block d) (steps (spell_parts parts (put kind.CloseBrace closer x))) (spell_parts parts (put kind.CloseBrace closer x))) _ parts (put kind.CloseBrace closer x) _
       (parts_again parts d (steps (spell_parts parts (put kind.CloseBrace closer x))) (put kind.CloseBrace closer x) (brace_end closer x) refl f (drop_one (length (spell_parts parts (put kind.CloseBrace closer x))) d few) (own (length (spell_parts parts (put kind.CloseBrace closer x))))) refl
 
-  pub parts_again : (l : PartsText) (d n : ℕ) (x : List Token) → PartEnds x → comes mark.Dashes x ≡ false → PartsFit l → length (spell_parts l x) < d → length (spell_parts l x) < n
+  pub parts_again : (l : PartsText) (d n : ℕ) (x : List Token) → PartEnds x → comes mark.Dashes x ≡ false → AllPartsFit l → length (spell_parts l x) < d → length (spell_parts l x) < n
       → the_parts (read_block d) n (spell_parts l x) ≡ good l x
   parts_again l d zero x h g f few more = absurd (nothing_below (length (spell_parts l x)) more)
   parts_again (last_part p) d (suc n) x h g f few more =
@@ -220,10 +220,10 @@ mutual
 
   else_again : (l : ElseText) (d n : ℕ) (x : List Token) → NoTail x → ElseFits l → length (spell_else l x) < d → length (spell_else l x) < n
       → (if comes mark.Else (spell_else l x)
-      then (bind (the mark.Else (spell_else l x)) λ else_word q.
+      then (outcome_bind (the mark.Else (spell_else l x)) λ else_word q.
       if comes mark.If q
-      then (bind (the_if (read_block d) n q) λ i q. good (else_if else_word i) q)
-      else (bind (read_block d q) λ c q. good (else_block else_word c) q))
+      then (outcome_bind (the_if (read_block d) n q) λ i q. good (else_if else_word i) q)
+      else (outcome_bind (read_block d q) λ c q. good (else_block else_word c) q))
       else good no_else (spell_else l x)) ≡ good l x
   else_again no_else d n x h f few more = unless (comes mark.Else x) _ _ _ h.no_else_word refl
   else_again (else_block word (block opener parts closer)) d n x h f few more =

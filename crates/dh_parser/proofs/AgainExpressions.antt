@@ -13,13 +13,13 @@ use Rattle.dh_parser.specs.declared.parsing.reading.Mark.TheVariants as mark
 use Rattle.dh_parser.specs.Marks.{comes}
 use Rattle.dh_parser.specs.Grammar.{NameText, NumberText, KindText, bool_kind, bit_kind, ubit_kind, ExprText, literal, negative, truth, variable, access, bracket, cast, binary, AccessText, element, physical, IndexText, index, MoreIndicesText, no_indices, index_then}
 use Rattle.dh_parser.specs.Spelling.{put, put_name, put_number, sign_of, spell_kind, spell, spell_access, spell_index, spell_indices}
-use Rattle.dh_parser.specs.Allowed.{level, IsWidth, KindFits, Fits, AccessFits, IndexFits, IndicesFit}
-use Rattle.dh_parser.specs.Reading.{Outcome, good, bad, bind, is_width, the_width, the_kind, Sign, op_from, sign_text, sign_from, sign_at, Reads, the_index, more_indices, access_from, goes_on, operand, chain_with, chain, read, steps, the_expression, expression}
+use Rattle.dh_parser.specs.Allowed.{level, WidthFits, KindFits, ExpressionFits, AccessFits, IndexFits, IndicesFit}
+use Rattle.dh_parser.specs.Reading.{Outcome, good, bad, outcome_bind, is_width, the_width, the_kind, Sign, op_from, sign_text, sign_from, sign_at, ExpressionReader, the_index, more_indices, access_from, access_goes_on, operand, chain_with, chain, read, steps, the_expression, expression}
 use Rattle.std.proofs.lemmas.Bool.Decides.{nat_tests}
 use Rattle.dh_parser.proofs.SoundOperators.{looser}
 
-pub next_is : {A B : Type 0} (o : Outcome A) (go : A → List Token → Outcome B) (a : A) (r : List Token) (z : Outcome B) → o ≡ good a r → go a r ≡ z → bind o go ≡ z
-next_is o go a r z h k = ap (λ p. bind p go) h ∙ k
+pub next_is : {A B : Type 0} (o : Outcome A) (go : A → List Token → Outcome B) (a : A) (r : List Token) (z : Outcome B) → o ≡ good a r → go a r ≡ z → outcome_bind o go ≡ z
+next_is o go a r z h k = ap (λ p. outcome_bind p go) h ∙ k
 
 pub when : {A : Type 0} (b : Bool) (x y z : A) → b ≡ true → x ≡ z → (if b then x else y) ≡ z
 when true x y z e h = h
@@ -32,7 +32,7 @@ unless false x y z e h = h
 is_width_true : (n : ℕ) → 1 ≤ n → n ≤ 64 → is_width n ≡ true
 is_width_true n h k = when (nat_le 1 n) (nat_le n 64) false true (le-leb 1 n h) (le-leb n 64 k)
 
-width_again : (w : NumberText) (x : List Token) → IsWidth w → the_width (put_number w x) ≡ good w x
+width_again : (w : NumberText) (x : List Token) → WidthFits w → the_width (put_number w x) ≡ good w x
 width_again w x f = when (is_width w.value) (good w x) (bad (put_number w x)) (good w x) (is_width_true w.value f.0 f.1) refl
 
 pub kind_again : (k : KindText) (x : List Token) → KindFits k → the_kind (spell_kind k x) ≡ good k x
@@ -143,7 +143,7 @@ op_again op.Add = refl
 op_again op.Sub = refl
 op_again op.Mul = refl
 
-sign_ends_access : (o : Op) (place : Place) (x : List Token) → goes_on (put (sign_of o) place x) ≡ false
+sign_ends_access : (o : Op) (place : Place) (x : List Token) → access_goes_on (put (sign_of o) place x) ≡ false
 sign_ends_access op.Either place x = refl
 sign_ends_access op.Both place x = refl
 sign_ends_access op.Eq place x = refl
@@ -179,7 +179,7 @@ abbrev pub TopLoose : ExprText → List Token → Type 0
 TopLoose (binary o sign l r) rest = sign_at (suc (level o)) rest ≡ None
 TopLoose _ rest = Unit {0}
 
-top_loose : (l : ExprText) (o : Op) (place : Place) (x : List Token) → Fits (level o) l → TopLoose l (put (sign_of o) place x)
+top_loose : (l : ExprText) (o : Op) (place : Place) (x : List Token) → ExpressionFits (level o) l → TopLoose l (put (sign_of o) place x)
 top_loose (literal n) o place x f = tt
 top_loose (negative minus n) o place x f = tt
 top_loose (truth holds word) o place x f = tt
@@ -208,7 +208,7 @@ tighter i j (t ∷ ts) h e = tighter_by i j (op_from t.kind) t ts h e
 suc_le : (a b : ℕ) → a ≤ b → a ≤ suc b
 suc_le a b h = omega arith
 
-top_of : (k : ℕ) (e : ExprText) (rest : List Token) → Fits k e → sign_at k rest ≡ None → TopLoose e rest
+top_of : (k : ℕ) (e : ExprText) (rest : List Token) → ExpressionFits k e → sign_at k rest ≡ None → TopLoose e rest
 top_of k (literal n) rest f s = tt
 top_of k (negative minus n) rest f s = tt
 top_of k (truth holds word) rest f s = tt
@@ -220,14 +220,14 @@ top_of k (binary o sign l r) rest f s = tighter k (suc (level o)) rest (suc_le k
 
 -- an expression that ends here is read again
 abbrev pub Again : ExprText → Type 0
-Again e = (d k : ℕ) (rest : List Token) → Fits k e → length (spell e rest) < d → goes_on rest ≡ false → sign_at k rest ≡ None → read d k (spell e rest) ≡ good e rest
+Again e = (d k : ℕ) (rest : List Token) → ExpressionFits k e → length (spell e rest) < d → access_goes_on rest ≡ false → sign_at k rest ≡ None → read d k (spell e rest) ≡ good e rest
 
 -- an expression that may be a left operand is read again, up to the chain that it begins
 abbrev LeftAgain : ExprText → Type 0
-LeftAgain e = (d k : ℕ) (rest : List Token) → Fits k e → length (spell e rest) < suc d → goes_on rest ≡ false → TopLoose e rest
+LeftAgain e = (d k : ℕ) (rest : List Token) → ExpressionFits k e → length (spell e rest) < suc d → access_goes_on rest ≡ false → TopLoose e rest
     → (n : ℕ) × ((length rest < n) × (read (suc d) k (spell e rest) ≡ chain (read d) n k e rest))
 
-chain_ends : (rd : Reads) (n k : ℕ) (e : ExprText) (rest : List Token) → length rest < n → sign_at k rest ≡ None → chain rd n k e rest ≡ good e rest
+chain_ends : (rd : ExpressionReader) (n k : ℕ) (e : ExprText) (rest : List Token) → length rest < n → sign_at k rest ≡ None → chain rd n k e rest ≡ good e rest
 chain_ends rd zero k e rest h s = absurd (nothing_below (length rest) h)
 chain_ends rd (suc n) k e rest h s = ap (λ x. chain_with rd e rest (λ f r. chain rd n k f r) x) s
 
@@ -239,7 +239,7 @@ again_from e h (suc d) k rest f few g s =
 
 left_of : (d k : ℕ) (e : ExprText) (ts rest : List Token) → operand (read d) ts ≡ good e rest
     → (n : ℕ) × ((length rest < n) × (read (suc d) k ts ≡ chain (read d) n k e rest))
-left_of d k e ts rest h = (suc (length rest), (own (length rest), ap (λ p. bind p (λ x r. chain (read d) (suc (length r)) k x r)) h))
+left_of d k e ts rest h = (suc (length rest), (own (length rest), ap (λ p. outcome_bind p (λ x r. chain (read d) (suc (length r)) k x r)) h))
 
 binary_step : (o : Op) (sign : Place) (l r : ExprText) (d k n : ℕ) (rest ts : List Token) → k ≤ level o → read d (suc (level o)) (spell r rest) ≡ good r rest
     → length (put (sign_of o) sign (spell r rest)) < n → read (suc d) k ts ≡ chain (read d) n k l (put (sign_of o) sign (spell r rest))
@@ -250,7 +250,7 @@ binary_step o sign l r d k (suc n) rest ts h hr more e = (
   (
     right_steps (length rest) (length (spell r rest)) n (longer r rest) more,
     e ∙ (ap (λ x. chain_with (read d) l (put (sign_of o) sign (spell r rest)) (λ f q. chain (read d) n k f q) x) (sign_found k o sign (spell r rest) h)
-        ∙ ap (λ p. bind p (λ f q. chain (read d) n k (binary o sign l f) q)) hr),
+        ∙ ap (λ p. outcome_bind p (λ f q. chain (read d) n k (binary o sign l f) q)) hr),
   ),
 )
 
@@ -267,7 +267,7 @@ comes_index (index opener e closer) x = refl
 index_no_brace : (i : IndexText) (x : List Token) → comes mark.OpenBrace (spell_index i x) ≡ false
 index_no_brace (index opener e closer) x = refl
 
-index_goes_on : (i : IndexText) (x : List Token) → goes_on (spell_index i x) ≡ true
+index_goes_on : (i : IndexText) (x : List Token) → access_goes_on (spell_index i x) ≡ true
 index_goes_on (index opener e closer) x = refl
 
 no_bracket : (b c : Bool) → (if b then true else c) ≡ false → b ≡ false
@@ -285,7 +285,7 @@ mutual
   left_again (truth true word) d k rest f few g t = left_of d k (truth true word) (put kind.True word rest) rest refl
   left_again (truth false word) d k rest f few g t = left_of d k (truth false word) (put kind.False word rest) rest refl
   left_again (variable n) d k rest f few g t =
-      left_of d k (variable n) (put_name n rest) rest (unless (goes_on rest) _ (good (variable n) rest) (good (variable n) rest) g refl)
+      left_of d k (variable n) (put_name n rest) rest (unless (access_goes_on rest) _ (good (variable n) rest) (good (variable n) rest) g refl)
   left_again (access a) d k rest f few g t =
       left_of d k (access a) (spell_access a rest) rest (access_again a d rest f few (no_bracket (comes mark.OpenBracket rest) (comes mark.OpenBrace rest) g))
   left_again (bracket opener e closer) d k rest f few g t =
@@ -301,7 +301,7 @@ mutual
 
   access_again : (a : AccessText) (d : ℕ) (rest : List Token) → AccessFits a → length (spell_access a rest) < suc d → comes mark.OpenBracket rest ≡ false → operand (read d) (spell_access a rest) ≡ good (access a) rest
   access_again (element n i more) d rest f few g =
-      when (goes_on (spell_index i (spell_indices more rest))) _ _ _ (index_goes_on i (spell_indices more rest))
+      when (access_goes_on (spell_index i (spell_indices more rest))) _ _ _ (index_goes_on i (spell_indices more rest))
       (next_is (access_from (read d) n (spell_index i (spell_indices more rest))) _ (element n i more) rest _
       (unless (comes mark.OpenBrace (spell_index i (spell_indices more rest))) _ _ _ (index_no_brace i (spell_indices more rest))
       (next_is (the_index (read d) (spell_index i (spell_indices more rest))) _ i (spell_indices more rest) _ (index_again i d (spell_indices more rest) f.0 (skip_one (length (spell_index i (spell_indices more rest))) d few))
@@ -368,12 +368,12 @@ pub bank_parts : (n : NameText) (opener : Place) (bank : NumberText) (closer : P
 bank_parts n opener bank closer i d rest f few =
     next_is (the_index (read d) (spell_index i rest)) _ i rest _ (index_again i d rest f (three (length (spell_index i rest)) d few)) refl
 
-pub operand_again : (e : ExprText) (d : ℕ) (rest : List Token) → Fits 10 e → length (spell e rest) < suc d → goes_on rest ≡ false → operand (read d) (spell e rest) ≡ good e rest
+pub operand_again : (e : ExprText) (d : ℕ) (rest : List Token) → ExpressionFits 10 e → length (spell e rest) < suc d → access_goes_on rest ≡ false → operand (read d) (spell e rest) ≡ good e rest
 operand_again (literal n) d rest f few g = refl
 operand_again (negative minus n) d rest f few g = refl
 operand_again (truth true word) d rest f few g = refl
 operand_again (truth false word) d rest f few g = refl
-operand_again (variable n) d rest f few g = unless (goes_on rest) _ (good (variable n) rest) (good (variable n) rest) g refl
+operand_again (variable n) d rest f few g = unless (access_goes_on rest) _ (good (variable n) rest) (good (variable n) rest) g refl
 operand_again (access a) d rest f few g = access_again a d rest f few (no_bracket (comes mark.OpenBracket rest) (comes mark.OpenBrace rest) g)
 operand_again (bracket opener e closer) d rest f few g =
     next_is (read d 0 (spell e (put kind.CloseParen closer rest))) _ e (put kind.CloseParen closer rest) _
@@ -384,6 +384,6 @@ operand_again (cast opener e word kd closer) d rest f few g =
     (next_is (the_kind (spell_kind kd (put kind.CloseParen closer rest))) _ kd (put kind.CloseParen closer rest) _ (kind_again kd (put kind.CloseParen closer rest) f.1) refl)
 operand_again (binary o sign l r) d rest f few g = absurd (level_below o f.0)
 
-pub expression_again : (e : ExprText) (x : List Token) → Fits 0 e → goes_on x ≡ false → sign_at 0 x ≡ None → the_expression (spell e x) ≡ good e x
+pub expression_again : (e : ExprText) (x : List Token) → ExpressionFits 0 e → access_goes_on x ≡ false → sign_at 0 x ≡ None → the_expression (spell e x) ≡ good e x
 unfolding expression
 expression_again e x f g s = again e (steps (spell e x)) 0 x f (own (length (spell e x))) g s

@@ -7,8 +7,8 @@ use Rattle.dh_parser.specs.declared.parsing.reading.Mark.TheVariants as mark
 use Rattle.dh_parser.specs.Marks.{comes}
 use Rattle.dh_parser.specs.Grammar.{NameText, PortsText, no_ports, some_ports, BanksText, no_banks, some_banks, DimsText, no_dims, dim_then, TypeText, ExprText, literal, negative, truth, variable, access, bracket, cast, binary, AccessText, element, physical, index, MoreArgumentsText, no_more_arguments, argument_then, ArgumentsText, no_arguments, some_arguments, FactorText, SuffixText, OffsetText, ViewText, shrink, split, suffix, shift, ValueText, no_value, some_value, adds, subtracts, multiplies, SimpleText, let_typed, let_value, view, assign, store, reduce, call}
 use Rattle.dh_parser.specs.Spelling.{put, put_name, put_number, sign_of, spell_kind, spell_ports, spell_banks, spell_dims, spell_type, spell, spell_index, spell_indices, spell_more_arguments, spell_arguments, spell_factor, spell_suffix, spell_offset, spell_all, spell_view, spell_value, spell_simple}
-use Rattle.dh_parser.specs.Allowed.{KindFits, Fits, MoreArgumentsFit, ArgumentsFit, SuffixFits, OffsetFits, AllFit, ViewFits, ValueFits, SimpleFits}
-use Rattle.dh_parser.specs.Reading.{Outcome, good, the_kind, the_ports, the_banks, the_dims, the_type, sign_at, access_from, goes_on, operand, read, steps, the_expression, more_arguments, the_arguments, the_factor, the_suffix, the_offset, more_of, brackets, the_view, the_value, store_from, the_simple}
+use Rattle.dh_parser.specs.Allowed.{KindFits, ExpressionFits, MoreArgumentsFit, ArgumentsFit, SuffixFits, OffsetFits, AllFit, ViewFits, ValueFits, SimpleFits}
+use Rattle.dh_parser.specs.Reading.{Outcome, good, the_kind, the_ports, the_banks, the_dims, the_type, sign_at, access_from, access_goes_on, operand, read, steps, the_expression, more_arguments, the_arguments, the_factor, the_suffix, the_offset, more_of, brackets, the_view, the_value, store_from, the_simple}
 use Rattle.dh_parser.proofs.AgainExpressions.{next_is, when, unless, kind_again, longer, nothing_below, own, inside_of, access_parts, bank_parts, operand_again, expression_again}
 
 ports_again : (p : PortsText) (x : List Token) → comes mark.OpenBrace x ≡ false → the_ports (spell_ports p x) ≡ good p x
@@ -44,7 +44,7 @@ type_again t x f g h =
     (next_is (the_ports (spell_ports t.ports (spell_dims t.dims x))) _ t.ports (spell_dims t.dims x) _ (ports_again t.ports (spell_dims t.dims x) (dims_no_brace t.dims x g))
     (next_is (the_dims (suc (length (spell_dims t.dims x))) (spell_dims t.dims x)) _ t.dims x _ (dims_again t.dims (suc (length (spell_dims t.dims x))) x (own (length (spell_dims t.dims x))) h) refl))
 
-arguments_end : (m : MoreArgumentsText) (x : List Token) → (goes_on (spell_more_arguments m x) ≡ false) × (sign_at 0 (spell_more_arguments m x) ≡ None)
+arguments_end : (m : MoreArgumentsText) (x : List Token) → (access_goes_on (spell_more_arguments m x) ≡ false) × (sign_at 0 (spell_more_arguments m x) ≡ None)
 arguments_end (no_more_arguments closer) x = (refl, refl)
 arguments_end (argument_then comma e more) x = (refl, refl)
 
@@ -152,7 +152,7 @@ view_again (shift word parent o more) x h g = brackets_again OffsetFits spell_of
 
 -- what may follow a simple command
 pub record Ends (x : List Token) : Type 0 where
-  pub goes : goes_on x ≡ false
+  pub goes : access_goes_on x ≡ false
   pub sign : sign_at 0 x ≡ None
   pub brace : comes mark.OpenBrace x ≡ false
   pub square : comes mark.OpenBracket x ≡ false
@@ -170,7 +170,7 @@ value_no_square : (v : ValueText) (x : List Token) → Ends x → comes mark.Ope
 value_no_square no_value x h = h.square
 value_no_square (some_value equal e) x h = refl
 
-store_rest : (a : AccessText) (becomes : Place) (e : ExprText) (x : List Token) → Fits 0 e → Ends x → (n : NameText) (ts : List Token)
+store_rest : (a : AccessText) (becomes : Place) (e : ExprText) (x : List Token) → ExpressionFits 0 e → Ends x → (n : NameText) (ts : List Token)
     → access_from (read (steps ts)) n ts ≡ good a (put kind.Becomes becomes (spell e x)) → store_from n ts ≡ good (store a becomes e) x
 store_rest a becomes e x f h n ts k =
     next_is (access_from (read (steps ts)) n ts) _ a (put kind.Becomes becomes (spell e x)) _ k

@@ -10,7 +10,7 @@ use Rattle.dh_lexer.specs.declared.tokens.TokenKind.{TokenKind}
 use Rattle.dh_lexer.specs.declared.tokens.TokenKind.TheVariants as kind
 use Rattle.dh_parser.specs.declared.parsing.reading.Mark.{Mark}
 use Rattle.dh_parser.specs.Marks.{is_mark, comes}
-use Rattle.dh_parser.specs.Reading.{Outcome, bind, the, name_text, number_text, name_from, the_name, number_from, the_number, good, bad, deep}
+use Rattle.dh_parser.specs.Reading.{Outcome, outcome_bind, the, name_text, number_text, name_from, the_name, number_from, the_number, good, bad, deep}
 
 pub data Where (p : List Token) : Type 0 where
   shared : (b : List Token) → Where p
@@ -51,28 +51,28 @@ pub record At {A : Type 0} (p q : List Token) (w : Where p) (o u : Outcome A) : 
 abbrev pub Alikes : {A : Type 0} → (List Token → Outcome A) → (List Token → Outcome A) → Type 0
 Alikes f g = (p q : List Token) (w : Where p) → At p q w (f (first p w)) (g (second p q w))
 
-bind_past : {A B : Type 0} (p : List Token) (o : Outcome A) (go : A → List Token → Outcome B) → Past p o → ((a : A) (r : List Token) → length r ≤ length p → Past p (go a r)) → Past p (bind o go)
+bind_past : {A B : Type 0} (p : List Token) (o : Outcome A) (go : A → List Token → Outcome B) → Past p o → ((a : A) (r : List Token) → length r ≤ length p → Past p (go a r)) → Past p (outcome_bind o go)
 bind_past p (good a r) go h k = k a r h
 bind_past p (bad r) go h k = h
 bind_past p deep go h k = tt
 
 bind_alike : {A B : Type 0} (p q : List Token) (o u : Outcome A) (go to : A → List Token → Outcome B) → Alike p q o u
-    → ((a : A) (w : Where p) → At p q w (go a (first p w)) (to a (second p q w))) → Alike p q (bind o go) (bind u to)
+    → ((a : A) (w : Where p) → At p q w (go a (first p w)) (to a (second p q w))) → Alike p q (outcome_bind o go) (outcome_bind u to)
 bind_alike p q o u go to (over h) k = over (bind_past p o go h (λ a r l. (k a (past r [] l)).holds))
 bind_alike p q o u go to (went a t b e d) k =
-    subst (λ x. Alike p q (bind x go) (bind u to)) (sym e) (subst (λ x. Alike p q (go a (t ∷ (b ++ p))) (bind x to)) (sym d) (k a (shared (t ∷ b))).holds)
-bind_alike p q o u go to (stopped t b e d) k = stopped t b (ap (λ x. bind x go) e) (ap (λ x. bind x to) d)
-bind_alike p q o u go to (gave e) k = gave (ap (λ x. bind x to) e)
+    subst (λ x. Alike p q (outcome_bind x go) (outcome_bind u to)) (sym e) (subst (λ x. Alike p q (go a (t ∷ (b ++ p))) (outcome_bind x to)) (sym d) (k a (shared (t ∷ b))).holds)
+bind_alike p q o u go to (stopped t b e d) k = stopped t b (ap (λ x. outcome_bind x go) e) (ap (λ x. outcome_bind x to) d)
+bind_alike p q o u go to (gave e) k = gave (ap (λ x. outcome_bind x to) e)
 
 bind_holds : {A B : Type 0} (p q : List Token) (w : Where p) (o u : Outcome A) (go to : A → List Token → Outcome B) → HoldsAt p q w o u
-    → ((a : A) (w : Where p) → At p q w (go a (first p w)) (to a (second p q w))) → HoldsAt p q w (bind o go) (bind u to)
+    → ((a : A) (w : Where p) → At p q w (go a (first p w)) (to a (second p q w))) → HoldsAt p q w (outcome_bind o go) (outcome_bind u to)
 bind_holds p q (shared []) o u go to h k = bind_past p o go h (λ a r l. (k a (past r [] l)).holds)
 bind_holds p q (shared (t ∷ b)) o u go to h k = bind_alike p q o u go to h k
 bind_holds p q (past r s l) o u go to h k = bind_past p o go h (λ a r l. (k a (past r [] l)).holds)
 
 -- goes on after a part
 pub next_at : {A B : Type 0} {p q : List Token} {w : Where p} {o u : Outcome A} (go to : A → List Token → Outcome B) → At p q w o u
-    → ((a : A) (v : Where p) → At p q v (go a (first p v)) (to a (second p q v))) → At p q w (bind o go) (bind u to)
+    → ((a : A) (v : Where p) → At p q v (go a (first p v)) (to a (second p q v))) → At p q w (outcome_bind o go) (outcome_bind u to)
 next_at {A} {B} {p} {q} {w} {o} {u} go to h k = record { holds = bind_holds p q w o u go to h.holds k }
 
 same_length : (n : ℕ) → n ≤ n

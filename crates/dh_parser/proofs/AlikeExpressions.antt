@@ -8,7 +8,7 @@ use Rattle.dh_value.specs.declared.operators.Op.{Op}
 use Rattle.dh_parser.specs.declared.parsing.reading.Mark.TheVariants as mark
 use Rattle.dh_parser.specs.Grammar.{NameText, NumberText, KindText, ExprText, bool_kind, bit_kind, ubit_kind, no_ports, some_ports, no_banks, some_banks, no_dims, dim_then, literal, negative, truth, variable, access, bracket, cast, binary, element, physical, index, no_indices, index_then}
 use Rattle.dh_parser.specs.Allowed.{level}
-use Rattle.dh_parser.specs.Reading.{Outcome, name_text, number_text, is_width, width_from, the_width, width_then, kind_from, the_kind, the_ports, the_banks, the_dims, type_text, the_type, op_from, sign_text, sign_from, sign_at, Reads, the_index, more_indices, access_from, goes_on, named_from, bracket_from, operand_from, operand, chain_with, chain, read, steps, the_expression, expression}
+use Rattle.dh_parser.specs.Reading.{Outcome, name_text, number_text, is_width, width_from, the_width, width_then, kind_from, the_kind, the_ports, the_banks, the_dims, type_text, the_type, op_from, sign_text, sign_from, sign_at, ExpressionReader, the_index, more_indices, access_from, access_goes_on, named_from, bracket_from, operand_from, operand, chain_with, chain, read, steps, the_expression, expression}
 use Rattle.dh_parser.proofs.AlikeBasics.{Where, first, second, Alikes, next_at, least, ends, no_steps, stepped, choose, if_comes, Before, takes, stays, passes, if_before, by_token, mark_alike, number_alike}
 
 width_before : (k : TokenKind) (t : Token) (p q : List Token) (w : Where p) → Before p q w (width_from k t (first p w)) (width_from k t (second p q w))
@@ -72,17 +72,17 @@ type_alike p q w =
     ends (type_text k ports dims) w2
 
 -- two readers of expressions that read alike at each level
-abbrev pub ReadsAlike : Reads → Reads → Type 0
+abbrev pub ReadsAlike : ExpressionReader → ExpressionReader → Type 0
 ReadsAlike f g = (k : ℕ) → Alikes (f k) (g k)
 
-index_alike : (f g : Reads) → ReadsAlike f g → Alikes (the_index f) (the_index g)
+index_alike : (f g : ExpressionReader) → ReadsAlike f g → Alikes (the_index f) (the_index g)
 index_alike f g h p q w =
     next_at _ _ (mark_alike mark.OpenBracket p q w) λ opener w0.
     next_at _ _ (h 0 p q w0) λ e w1.
     next_at _ _ (mark_alike mark.CloseBracket p q w1) λ closer w2.
     ends (index opener e closer) w2
 
-indices_alike : (f g : Reads) → ReadsAlike f g → (n m : ℕ) → Alikes (more_indices f n) (more_indices g m)
+indices_alike : (f g : ExpressionReader) → ReadsAlike f g → (n m : ℕ) → Alikes (more_indices f n) (more_indices g m)
 indices_alike f g h zero m p q w = no_steps
 indices_alike f g h (suc n) m p q w =
     stepped (λ m. more_indices g m (second p q w)) m refl λ m.
@@ -92,7 +92,7 @@ indices_alike f g h (suc n) m p q w =
     ends (index_then i more) w1)
     (ends no_indices w)
 
-pub access_alike : (f g : Reads) → ReadsAlike f g → (n : NameText) → Alikes (access_from f n) (access_from g n)
+pub access_alike : (f g : ExpressionReader) → ReadsAlike f g → (n : NameText) → Alikes (access_from f n) (access_from g n)
 access_alike f g h n p q w =
     if_comes mark.OpenBrace w (
     next_at _ _ (mark_alike mark.OpenBrace p q w) λ opener w0.
@@ -104,14 +104,14 @@ access_alike f g h n p q w =
     next_at _ _ (indices_alike f g h (suc (length (first p w0))) (suc (length (second p q w0))) p q w0) λ more w1.
     ends (element n i more) w1)
 
-named_alike : (f g : Reads) → ReadsAlike f g → (n : NameText) → Alikes (named_from f n) (named_from g n)
+named_alike : (f g : ExpressionReader) → ReadsAlike f g → (n : NameText) → Alikes (named_from f n) (named_from g n)
 named_alike f g h n p q w =
-    choose w goes_on (λ t r s. refl) (
+    choose w access_goes_on (λ t r s. refl) (
     next_at _ _ (access_alike f g h n p q w) λ a w0.
     ends (access a) w0)
     (ends (variable n) w)
 
-bracket_alike : (f g : Reads) → ReadsAlike f g → (opener : Place) → Alikes (bracket_from f opener) (bracket_from g opener)
+bracket_alike : (f g : ExpressionReader) → ReadsAlike f g → (opener : Place) → Alikes (bracket_from f opener) (bracket_from g opener)
 bracket_alike f g h opener p q w =
     next_at _ _ (h 0 p q w) λ e w0.
     if_comes mark.As w0 (
@@ -122,7 +122,7 @@ bracket_alike f g h opener p q w =
     next_at _ _ (mark_alike mark.CloseParen p q w0) λ closer w1.
     ends (bracket opener e closer) w1)
 
-operand_before : (f g : Reads) → ReadsAlike f g → (k : TokenKind) (t : Token) (p q : List Token) (w : Where p) → Before p q w (operand_from f k t (first p w)) (operand_from g k t (second p q w))
+operand_before : (f g : ExpressionReader) → ReadsAlike f g → (k : TokenKind) (t : Token) (p q : List Token) (w : Where p) → Before p q w (operand_from f k t (first p w)) (operand_from g k t (second p q w))
 operand_before f g h (kind.Number n) t p q w = takes (ends (literal (number_text n t.place)) w)
 operand_before f g h kind.Minus t p q w =
     takes (
@@ -134,14 +134,14 @@ operand_before f g h (kind.Name n) t p q w = takes (named_alike f g h (name_text
 operand_before f g h kind.OpenParen t p q w = takes (bracket_alike f g h t.place p q w)
 operand_before f g h _ t p q w = stays t w
 
-pub operand_alike : (f g : Reads) → ReadsAlike f g → Alikes (operand f) (operand g)
+pub operand_alike : (f g : ExpressionReader) → ReadsAlike f g → Alikes (operand f) (operand g)
 operand_alike f g h p q w = by_token (operand f) (operand g) (least (length p)) (λ t v. operand_before f g h t.kind t p q v) w
 
 -- two ways to go on with what was read
 abbrev ChainsAlike : (ExprText → List Token → Outcome ExprText) → (ExprText → List Token → Outcome ExprText) → Type 0
 ChainsAlike go to = (e : ExprText) → Alikes (go e) (to e)
 
-tested_before : (f g : Reads) → ReadsAlike f g → (go to : ExprText → List Token → Outcome ExprText) → ChainsAlike go to → (e : ExprText) (o : Op) (b : Bool) (t : Token) (p q : List Token) (w : Where p)
+tested_before : (f g : ExpressionReader) → ReadsAlike f g → (go to : ExprText → List Token → Outcome ExprText) → ChainsAlike go to → (e : ExprText) (o : Op) (b : Bool) (t : Token) (p q : List Token) (w : Where p)
     → Before p q w (chain_with f e (t ∷ first p w) go (if b then Some (sign_text o t.place (first p w)) else None))
     (chain_with g e (t ∷ second p q w) to (if b then Some (sign_text o t.place (second p q w)) else None))
 tested_before f g h go to c e o true t p q w =
@@ -150,17 +150,17 @@ tested_before f g h go to c e o true t p q w =
     c (binary o t.place e x) p q w0)
 tested_before f g h go to c e o false t p q w = passes e t w
 
-sign_before : (f g : Reads) → ReadsAlike f g → (go to : ExprText → List Token → Outcome ExprText) → ChainsAlike go to → (k : ℕ) (e : ExprText) (o : Option Op) (t : Token) (p q : List Token) (w : Where p)
+sign_before : (f g : ExpressionReader) → ReadsAlike f g → (go to : ExprText → List Token → Outcome ExprText) → ChainsAlike go to → (k : ℕ) (e : ExprText) (o : Option Op) (t : Token) (p q : List Token) (w : Where p)
     → Before p q w (chain_with f e (t ∷ first p w) go (sign_from k o t (first p w))) (chain_with g e (t ∷ second p q w) to (sign_from k o t (second p q w)))
 sign_before f g h go to c k e None t p q w = passes e t w
 sign_before f g h go to c k e (Some o) t p q w = tested_before f g h go to c e o (nat_le k (level o)) t p q w
 
-chain_with_alike : (f g : Reads) → ReadsAlike f g → (go to : ExprText → List Token → Outcome ExprText) → ChainsAlike go to → (k : ℕ) (e : ExprText)
+chain_with_alike : (f g : ExpressionReader) → ReadsAlike f g → (go to : ExprText → List Token → Outcome ExprText) → ChainsAlike go to → (k : ℕ) (e : ExprText)
     → Alikes (λ ts. chain_with f e ts go (sign_at k ts)) (λ ts. chain_with g e ts to (sign_at k ts))
 chain_with_alike f g h go to c k e p q w =
     by_token (λ ts. chain_with f e ts go (sign_at k ts)) (λ ts. chain_with g e ts to (sign_at k ts)) (least (length p)) (λ t v. sign_before f g h go to c k e (op_from t.kind) t p q v) w
 
-chain_alike : (f g : Reads) → ReadsAlike f g → (n m k : ℕ) (e : ExprText) → Alikes (chain f n k e) (chain g m k e)
+chain_alike : (f g : ExpressionReader) → ReadsAlike f g → (n m k : ℕ) (e : ExprText) → Alikes (chain f n k e) (chain g m k e)
 chain_alike f g h zero m k e p q w = no_steps
 chain_alike f g h (suc n) m k e p q w =
     stepped (λ m. chain g m k e (second p q w)) m refl λ m.

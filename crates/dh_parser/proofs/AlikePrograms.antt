@@ -6,7 +6,7 @@ use Rattle.dh_lexer.specs.declared.tokens.TokenKind.{TokenKind}
 use Rattle.dh_lexer.specs.declared.tokens.TokenKind.TheVariants as kind
 use Rattle.dh_parser.specs.declared.parsing.reading.Mark.TheVariants as mark
 use Rattle.dh_parser.specs.Grammar.{NameText, AccessText, ViewText, ReducerText, SimpleText, PartText, ItemsText, no_more_arguments, argument_then, no_arguments, some_arguments, shrink, split, suffix, shift, no_value, some_value, adds, subtracts, multiplies, let_typed, let_value, view, assign, store, reduce, call, no_declared, some_declared, no_unroll, some_unroll, block, last_part, part_then, end_of_part, last_simple, simple_then, compound_then, semicolon_then, block_alone, if_alone, while_loop, for_loop, if_else, no_else, else_block, else_if, no_combine, some_combine, no_more_parameters, parameter_then, no_parameters, some_parameters, no_items, decl_then, def_then}
-use Rattle.dh_parser.specs.Reading.{Outcome, bind, the, name_text, read, steps, the_expression, more_arguments, the_arguments, factor_text, suffix_text, offset_text, the_factor, the_suffix, the_offset, more_of, brackets, view_from, the_view, the_value, let_from, view_command_from, reduce_from, store_from, after_name_from, after_name, simple_from, the_simple, the_declared, the_unroll, head_text, the_head, Blocks, the_if, the_while, the_combine, the_for, the_compound, Beginning, beginning, part_with, the_part, the_parts, read_block, the_block, parameter_text, the_parameter, more_parameters, the_parameters, decl_from, def_from, items_from, the_items, program_text, the_program, good, begins_simple, begins_compound, begins_semicolon, begins_nothing}
+use Rattle.dh_parser.specs.Reading.{Outcome, outcome_bind, the, name_text, read, steps, the_expression, more_arguments, the_arguments, factor_text, suffix_text, offset_text, the_factor, the_suffix, the_offset, more_of, brackets, view_from, the_view, the_value, let_from, view_command_from, reduce_from, store_from, after_name_from, after_name, simple_from, the_simple, the_declared, the_unroll, head_text, the_head, Blocks, the_if, the_while, the_combine, the_for, the_compound, Beginning, beginning, part_with, the_part, the_parts, read_block, the_block, parameter_text, the_parameter, more_parameters, the_parameters, decl_from, def_from, items_from, the_items, program_text, the_program, good, begins_simple, begins_compound, begins_semicolon, begins_nothing}
 use Rattle.dh_parser.proofs.AlikeBasics.{Where, first, second, At, Alikes, next_at, least, ends, no_steps, stepped, by_first, if_comes, Before, takes, stays, passes, by_token, mark_alike, name_alike, number_alike, shared, past}
 use Rattle.dh_parser.proofs.AlikeExpressions.{kind_alike, type_alike, access_alike, operand_alike, read_alike, expression_alike}
 
@@ -119,8 +119,8 @@ reduce_alike n sign place p q w =
 -- what follows the access of a store
 abbrev stored : AccessText → List Token → Outcome SimpleText
 stored a ts =
-    bind (the mark.Becomes ts) λ becomes r.
-    bind (the_expression r) λ e r.
+    outcome_bind (the mark.Becomes ts) λ becomes r.
+    outcome_bind (the_expression r) λ e r.
     good (store a becomes e) r
 
 stored_alike : (a : AccessText) → Alikes (stored a) (stored a)

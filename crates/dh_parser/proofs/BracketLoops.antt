@@ -11,7 +11,7 @@ use Rattle.dh_parser.specs.Marks.{comes}
 use Rattle.dh_parser.specs.Grammar.{NameText, ViewText, SuffixText}
 use Rattle.dh_parser.specs.TreesOfTexts.{suffix_of}
 use Rattle.dh_parser.specs.Answers.{SameSuffix}
-use Rattle.dh_parser.specs.Reading.{Outcome, good, bind, the_name, more_of, all_of, parent_and, brackets, view_from, the_view, steps}
+use Rattle.dh_parser.specs.Reading.{Outcome, good, outcome_bind, the_name, more_of, all_of, parent_and, brackets, view_from, the_view, steps}
 use Rattle.dh_parser.proofs.Going.{assoc, same_bind, if_true, if_false}
 
 pub pushed_map : {X Z : Type 0} {new : List X} (old : List X) (f : X → Z) (x : X) → new ≡ old ++ (x ∷ []) → map f new ≡ map f old ++ (f x ∷ [])
@@ -37,7 +37,7 @@ pub suffix_seen : (n : Numeral) (e : Expr) (s : SuffixText) → SameSuffix n e s
 suffix_seen n e s h = ap (λ v. factor_seen (v, e)) h.0.0 ∙ ap (λ t. suffixed_as s.factor.value t) h.1
 
 pub brackets_go : {A : Type 0} (one : List Token → Outcome A) (ts : List Token) → comes mark.OpenBracket ts ≡ true → (n : ℕ)
-    → more_of one (suc n) ts ≡ bind (one ts) (λ a r. bind (more_of one n r) (λ more r. good (a ∷ more) r))
+    → more_of one (suc n) ts ≡ outcome_bind (one ts) (λ a r. outcome_bind (more_of one n r) (λ more r. good (a ∷ more) r))
 brackets_go one ts e n = if_true (comes mark.OpenBracket ts) _ _ e
 
 pub brackets_end : {A : Type 0} (one : List Token → Outcome A) (ts : List Token) → comes mark.OpenBracket ts ≡ false → (n : ℕ) → more_of one (suc n) ts ≡ good [] ts
@@ -45,7 +45,7 @@ brackets_end one ts e n = if_false (comes mark.OpenBracket ts) _ _ e
 
 -- the parent and the brackets, apart and together
 pub brackets_is : {A : Type 0} (one : List Token → Outcome A) (make : NameText → A → List A → ViewText) (ts : List Token)
-    → brackets one make ts ≡ bind (parent_and one ts) (λ p r. good (make p.0 p.1.0 p.1.1) r)
+    → brackets one make ts ≡ outcome_bind (parent_and one ts) (λ p r. good (make p.0 p.1.0 p.1.1) r)
 brackets_is one make ts = sym (
     assoc (the_name ts) _ _ ∙ same_bind (the_name ts) _ _ λ parent r0.
     assoc (all_of one r0) _ _ ∙ (assoc (one r0) _ _ ∙ same_bind (one r0) _ _ λ a r1.

@@ -12,10 +12,10 @@ use Rattle.dh_lexer.specs.declared.tokens.TokenKind.TheVariants as kind
 use Rattle.dh_parser.specs.declared.parsing.reading.Mark.{Mark}
 use Rattle.dh_parser.specs.declared.parsing.reading.Mark.TheVariants as mark
 use Rattle.dh_parser.specs.Marks.{is_mark}
-use Rattle.dh_parser.specs.Answers.{Took, StandsAt, SameNumber, SameUnrolled, SameHead}
+use Rattle.dh_parser.specs.Answers.{Took, IsFirstTokenPlace, SameNumber, SameUnrolled, SameHead}
 use Rattle.dh_parser.specs.Grammar.{KindText, NumberText, HeadText, bit_kind, ubit_kind}
 use Rattle.dh_parser.specs.Reading.{good, bad, the, kind_from, the_kind, the_width, width_then, Sign, op_from, sign_text, sign_from, sign_at}
-use Rattle.dh_parser.specs.TreesOfTexts.{kind_place, ref_of, placed_of, declared_of, factor_of}
+use Rattle.dh_parser.specs.TreesOfTexts.{kind_place, ref_of, placed_of, declared_kind_of_text, factor_of}
 use Rattle.dh_parser.proofs.Going.{AllOf, all_then}
 
 none_first : (A : Type 0) → 1 ≤ length {A = A} [] → ⊥
@@ -55,7 +55,7 @@ kind_starts_from p kind.Ubit t ts e = width_starts p t.place (ubit_kind t.place)
 kind_starts_from p _ t ts e = tt
 
 -- a kind begins at the first token
-pub kind_starts : (p : Place) (ts : List Token) → StandsAt (Ok p) ts → AllOf (λ k. kind_place k ≡ p) (the_kind ts)
+pub kind_starts : (p : Place) (ts : List Token) → IsFirstTokenPlace (Ok p) ts → AllOf (λ k. kind_place k ≡ p) (the_kind ts)
 kind_starts p [] h = tt
 kind_starts p (t ∷ ts) h = kind_starts_from p t.kind t ts (sym h)
 
@@ -68,6 +68,6 @@ sign_is k all ts t o e f h =
     ap (λ l. sign_at k l) e ∙ (ap (λ x. sign_from k x t ts) f ∙ tightly k o (Some (sign_text o t.place ts)) None h)
 
 -- the head of a loop, part by part
-pub same_head : (h : LoopHead) (t : HeadText) → h.place ≡ t.word → h.iterator ≡ ref_of t.iterator → h.declared ≡ declared_of t.declared
+pub same_head : (h : LoopHead) (t : HeadText) → h.place ≡ t.word → h.iterator ≡ ref_of t.iterator → h.declared ≡ declared_kind_of_text t.declared
     → SameNumber h.low (placed_of t.low) → SameNumber h.high (placed_of t.high) → SameUnrolled h.factor h.unroll (factor_of h.place t.unroll) → SameHead h t
 same_head h t p i d l g f = record { place = p; iterator = i; declared = d; low = l; high = g; factor = rw (← p) f }

@@ -12,8 +12,8 @@ use Rattle.dh_parser.specs.declared.parsing.reading.Mark.{Mark}
 use Rattle.dh_parser.specs.Marks.{is_mark}
 use Rattle.dh_parser.specs.Grammar.{NameText, NumberText, TypeText, ExprText, IndexText, BlockText, ProgramText, bool_kind, no_ports, no_dims, literal, index, block, last_part, end_of_part}
 use Rattle.dh_parser.specs.Spelling.{put, put_name, put_number, spell_program}
-use Rattle.dh_parser.specs.Allowed.{IsWidth, ProgramFits}
-use Rattle.dh_parser.specs.Reading.{Outcome, bind, the, name_text, number_text, name_from, the_name, number_from, the_number, type_text, good, bad, deep}
+use Rattle.dh_parser.specs.Allowed.{WidthFits, ProgramFits}
+use Rattle.dh_parser.specs.Reading.{Outcome, outcome_bind, the, name_text, number_text, name_from, the_name, number_from, the_number, type_text, good, bad, deep}
 use Rattle.dh_parser.proofs.SoundBasics.{Good, Took, any, put_mark, mark_took, name_took, number_took}
 use Rattle.dh_parser.proofs.Fronts.{goes_along, Fronts, front_of, name_front, number_front}
 
@@ -74,7 +74,7 @@ later_stops s b ts r a h e deep k = tt
 
 bind_stops : {A B : Type 0} (P : A → List Token → Type 0) (s : A → List Token → List Token) (b : List Token → List Token) (ts : List Token) (o : Outcome A) (go : A → List Token → Outcome B)
     → Along s → ((a : A) (r : List Token) → P a r → ts ≡ s a r) → Good P o → StopsAt b ts o
-    → ((a : A) (r : List Token) → P a r → Goes (λ x. b (s a x)) r (go a r)) → StopsAt b ts (bind o go)
+    → ((a : A) (r : List Token) → P a r → Goes (λ x. b (s a x)) r (go a r)) → StopsAt b ts (outcome_bind o go)
 bind_stops P s b ts (good a r) go h e p g k = later_stops s b ts r a h (e a r p) (go a r) (k a r p).on
 bind_stops P s b ts (bad r) go h e p g k = g
 bind_stops P s b ts deep go h e p g k = tt
@@ -82,13 +82,13 @@ bind_stops P s b ts deep go h e p g k = tt
 -- goes on after what was read, of which this and that is known
 pub after_good : {A B : Type 0} (P : A → List Token → Type 0) (s : A → List Token → List Token) (b : List Token → List Token) (ts : List Token) (o : Outcome A) (go : A → List Token → Outcome B)
     → Along s → ((a : A) (r : List Token) → P a r → ts ≡ s a r) → Good P o → Goes b ts o
-    → ((a : A) (r : List Token) → P a r → Goes (λ x. b (s a x)) r (go a r)) → Goes b ts (bind o go)
+    → ((a : A) (r : List Token) → P a r → Goes (λ x. b (s a x)) r (go a r)) → Goes b ts (outcome_bind o go)
 after_good P s b ts o go h e p g k = record { on = bind_stops P s b ts o go h e p g.on k }
 
 -- goes on after a part
 pub part : {A B : Type 0} {F : A → Type 0} {s : A → List Token → List Token} {f : List Token → Outcome A} → Part F s f
     → {b : List Token → List Token} (ts z : List Token) {go : A → List Token → Outcome B} → Opens F s b z
-    → ((a : A) (r : List Token) → F a → Goes (λ x. b (s a x)) r (go a r)) → Goes b ts (bind (f ts) go)
+    → ((a : A) (r : List Token) → F a → Goes (λ x. b (s a x)) r (go a r)) → Goes b ts (outcome_bind (f ts) go)
 part {A} {B} {F} {s} {f} p {b} ts z {go} o k =
     after_good (λ a r. F a × (ts ≡ s a r)) s b ts (f ts) go p.along (λ a r q. q.1) (p.took ts) (p.goes b z o ts) (λ a r q. k a r q.0)
 
@@ -106,13 +106,13 @@ pub pick : {A : Type 0} {b : List Token → List Token} {ts : List Token} (c : B
 pick true g h = g
 pick false g h = h
 
-made_stops : {A B : Type 0} (make : A → B) (b : List Token → List Token) (ts : List Token) (o : Outcome A) → StopsAt b ts o → StopsAt b ts (bind o (λ a r. good (make a) r))
+made_stops : {A B : Type 0} (make : A → B) (b : List Token → List Token) (ts : List Token) (o : Outcome A) → StopsAt b ts o → StopsAt b ts (outcome_bind o (λ a r. good (make a) r))
 made_stops make b ts (good a r) g = tt
 made_stops make b ts (bad r) g = g
 made_stops make b ts deep g = tt
 
 -- what is read is made into a text
-pub made : {A B : Type 0} (make : A → B) {b : List Token → List Token} {ts : List Token} (o : Outcome A) → Goes b ts o → Goes b ts (bind o (λ a r. good (make a) r))
+pub made : {A B : Type 0} (make : A → B) {b : List Token → List Token} {ts : List Token} (o : Outcome A) → Goes b ts o → Goes b ts (outcome_bind o (λ a r. good (make a) r))
 made make {b} {ts} o g = record { on = made_stops make b ts o g.on }
 
 put_stops : {A : Type 0} (t : Token) (b : List Token → List Token) (ts : List Token) (o : Outcome A) → StopsAt (λ x. b (t ∷ x)) ts o → StopsAt b (t ∷ ts) o
@@ -153,7 +153,7 @@ some_index = index here some_expression here
 abbrev pub some_block : BlockText
 some_block = block here (last_part end_of_part) here
 
-pub one_is_width : IsWidth some_number
+pub one_is_width : WidthFits some_number
 one_is_width = (omega arith, omega arith)
 
 mark_go : (m : Mark) → GoesOn any (put_mark m) (the m)

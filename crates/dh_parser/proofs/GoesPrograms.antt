@@ -8,7 +8,7 @@ use Rattle.dh_parser.specs.declared.parsing.reading.Mark.TheVariants as mark
 use Rattle.dh_parser.specs.Marks.{comes}
 use Rattle.dh_parser.specs.Grammar.{PartText, ItemsText, ProgramText, bool_kind, no_declared, some_declared, no_unroll, some_unroll, block, last_part, part_then, end_of_part, last_simple, simple_then, compound_then, semicolon_then, block_alone, if_alone, while_loop, for_loop, if_else, no_else, else_block, else_if, no_combine, some_combine, no_more_parameters, parameter_then, no_parameters, some_parameters, no_items, decl_then, def_then}
 use Rattle.dh_parser.specs.Spelling.{put, spell_declared, spell_unroll, spell_head, spell_block, spell_parts, spell_part, spell_compound, spell_if, spell_combine, spell_parameter, spell_more_parameters, spell_parameters, spell_items, spell_program}
-use Rattle.dh_parser.specs.Allowed.{DeclaredFits, BlockFits, PartsFit, PartFits, CompoundFits, IfFits, CombineFits, MoreParametersFit, ParametersFit, ItemsFit, ProgramFits}
+use Rattle.dh_parser.specs.Allowed.{DeclaredFits, BlockFits, AllPartsFit, PartFits, CompoundFits, IfFits, CombineFits, MoreParametersFit, ParametersFit, ItemsFit, ProgramFits}
 use Rattle.dh_parser.specs.Reading.{Outcome, steps, the_declared, the_unroll, head_text, the_head, Blocks, the_if, the_while, the_combine, the_for, the_compound, Beginning, beginning, part_with, the_part, the_parts, read_block, the_block, parameter_text, the_parameter, more_parameters, the_parameters, decl_from, def_from, items_from, the_items, program_text, the_program, begins_simple, begins_compound, begins_semicolon, begins_nothing}
 use Rattle.dh_parser.proofs.SoundBasics.{any}
 use Rattle.dh_parser.proofs.SoundPrograms.{declared_took, unroll_took, HeadFits, head_took, if_took, combine_took, compound_took, part_took, parts_took, blocks_took, block_took, ParameterFits, parameter_took, more_parameters_took, parameters_took, items_took}
@@ -127,7 +127,7 @@ part_go : (blocks : Blocks) → BlocksGo blocks → (n : ℕ) → GoesOn PartFit
 part_go blocks h zero b z o ts = gave_up
 part_go blocks h (suc n) b z o ts = part_with_go blocks h (the_part blocks n) (part_of part_front (part_took blocks h.took n) (part_go blocks h n)) b z o ts (beginning ts)
 
-parts_go : (blocks : Blocks) → BlocksGo blocks → (n : ℕ) → GoesOn PartsFit spell_parts (the_parts blocks n)
+parts_go : (blocks : Blocks) → BlocksGo blocks → (n : ℕ) → GoesOn AllPartsFit spell_parts (the_parts blocks n)
 parts_go blocks h zero b z o ts = gave_up
 parts_go blocks h (suc n) b z o ts =
     part (part_of part_front (part_took blocks h.took (steps ts)) (part_go blocks h (steps ts))) ts _ (λ p f. o (last_part p) f) λ p r f.

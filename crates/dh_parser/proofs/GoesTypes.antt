@@ -7,22 +7,22 @@ use Rattle.dh_parser.specs.declared.parsing.reading.Mark.TheVariants as mark
 use Rattle.dh_parser.specs.Marks.{comes}
 use Rattle.dh_parser.specs.Grammar.{bool_kind, bit_kind, ubit_kind, no_ports, some_ports, no_banks, some_banks, no_dims, dim_then}
 use Rattle.dh_parser.specs.Spelling.{put_number, spell_kind, spell_ports, spell_banks, spell_dims, spell_type}
-use Rattle.dh_parser.specs.Allowed.{IsWidth, KindFits}
+use Rattle.dh_parser.specs.Allowed.{WidthFits, KindFits}
 use Rattle.dh_parser.specs.Reading.{is_width, width_from, the_width, kind_from, the_kind, the_ports, the_banks, the_dims, type_text, the_type}
 use Rattle.dh_parser.proofs.SoundBasics.{any}
 use Rattle.dh_parser.proofs.SoundTypes.{width_took, kind_took, ports_took, banks_took, dims_took, TypeFits, type_took}
 use Rattle.dh_parser.proofs.Fronts.{number_front, kind_front, ports_front, banks_front, dims_front, type_front}
 use Rattle.dh_parser.proofs.GoesBasics.{Goes, Opens, GoesOn, Part, part_of, part, done, gave_up, stuck, pick, took_token, here, some_number, one_is_width, mark_goes, number_goes}
 
-width_go_from : (b : List Token → List Token) (z : List Token) → Opens IsWidth put_number b z → (k : TokenKind) (t : Token) (ts : List Token) → Goes b (t ∷ ts) (width_from k t ts)
+width_go_from : (b : List Token → List Token) (z : List Token) → Opens WidthFits put_number b z → (k : TokenKind) (t : Token) (ts : List Token) → Goes b (t ∷ ts) (width_from k t ts)
 width_go_from b z o (kind.Number n) t ts = pick (is_width n) done (stuck _ (o some_number one_is_width))
 width_go_from b z o _ t ts = stuck _ (o some_number one_is_width)
 
-width_go : GoesOn IsWidth put_number the_width
+width_go : GoesOn WidthFits put_number the_width
 width_go b z o [] = stuck _ (o some_number one_is_width)
 width_go b z o (t ∷ ts) = width_go_from b z o t.kind t ts
 
-width_goes : Part IsWidth put_number the_width
+width_goes : Part WidthFits put_number the_width
 width_goes = part_of number_front width_took width_go
 
 kind_go_from : (b : List Token → List Token) (z : List Token) → Opens KindFits spell_kind b z → (k : TokenKind) (t : Token) (ts : List Token) → t.kind ≡ k → Goes b (t ∷ ts) (kind_from k t ts)

@@ -19,9 +19,9 @@ use Rattle.dh_parser.specs.declared.parsing.programs.Item.TheVariants as items
 use Rattle.dh_parser.specs.declared.parsing.reading.Mark.TheVariants as mark
 use Rattle.dh_parser.specs.Marks.{comes}
 use Rattle.dh_parser.specs.Grammar.{NameText, TypeText, BlockText, PartsText, ItemsText, no_items, decl_then, def_then, ParametersText, some_parameters, no_more_parameters, parameter_then}
-use Rattle.dh_parser.specs.TreesOfTexts.{ref_of, shape_of, formals_of, block_of, count_block, decls_of, functions_of, count_items, body_of, program_of}
+use Rattle.dh_parser.specs.TreesOfTexts.{ref_of, shape_of_text, formals_of, block_of_text, count_block, decls_of, functions_of, count_items, body_of, program_of}
 use Rattle.dh_parser.specs.Answers.{SameItem, Kept, SameDecl, SameFunction, SameItems, SameType, SameBlock}
-use Rattle.dh_parser.specs.Reading.{Outcome, good, bind, the, the_name, the_type, the_block, the_parameter, further_parameter, more_parameters, the_parameters, the_decl, the_def, item_from, the_item, items_from, the_items, the_parts, the_body, program_text, the_program, steps}
+use Rattle.dh_parser.specs.Reading.{Outcome, good, outcome_bind, the, the_name, the_type, the_block, the_parameter, further_parameter, more_parameters, the_parameters, the_decl, the_def, item_from, the_item, items_from, the_items, the_parts, the_body, program_text, the_program, steps}
 use Rattle.dh_tree.specs.declared.trees.commands.Command.{Command}
 use Rattle.dh_parser.proofs.WholeBlocks.{parts_is}
 use Rattle.dh_parser.proofs.Going.{assoc, same_bind, if_true, if_false}
@@ -30,9 +30,9 @@ use Rattle.dh_parser.proofs.BracketLoops.{pushed_map, next_in, all_in}
 -- what follows an item
 abbrev pub items_after : ℕ → Option (ItemsText → ItemsText) → List Token → Outcome ItemsText
 items_after k None r = good no_items r
-items_after k (Some put) r = bind (the_items k r) (λ m q. good (put m) q)
+items_after k (Some put) r = outcome_bind (the_items k r) (λ m q. good (put m) q)
 
-items_by_from : (k : ℕ) (kd : TokenKind) (t : Token) (ts : List Token) → items_from (the_items k) kd t ts ≡ bind (item_from kd t ts) (items_after k)
+items_by_from : (k : ℕ) (kd : TokenKind) (t : Token) (ts : List Token) → items_from (the_items k) kd t ts ≡ outcome_bind (item_from kd t ts) (items_after k)
 items_by_from k kind.Decl t ts = sym (
     assoc (the_decl t.place ts) _ _ ∙ (
     assoc (the_name ts) _ _ ∙ same_bind (the_name ts) _ _ λ n r0.
@@ -48,18 +48,18 @@ items_by_from k kind.Def t ts = sym (
     assoc (the_block r3) _ _))
 items_by_from k _ t ts = refl
 
-pub items_by : (k : ℕ) (ts : List Token) → the_items (suc k) ts ≡ bind (the_item ts) (items_after k)
+pub items_by : (k : ℕ) (ts : List Token) → the_items (suc k) ts ≡ outcome_bind (the_item ts) (items_after k)
 items_by k [] = refl
 items_by k (t ∷ ts) = items_by_from k t.kind t ts
 
 pub item_at : (all ts : List Token) (t : Token) (k : TokenKind) → all ≡ t ∷ ts → t.kind ≡ k → the_item all ≡ item_from k t ts
 item_at all ts t k e f = ap the_item e ∙ ap (λ x. item_from x t ts) f
 
-pub items_turn : (ts new : List Token) (put : ItemsText → ItemsText) → the_item ts ≡ good (Some put) new → (k : ℕ) → the_items (suc k) ts ≡ bind (the_items k new) (λ m q. good (put m) q)
-items_turn ts new put e k = items_by k ts ∙ ap (λ o. bind o (items_after k)) e
+pub items_turn : (ts new : List Token) (put : ItemsText → ItemsText) → the_item ts ≡ good (Some put) new → (k : ℕ) → the_items (suc k) ts ≡ outcome_bind (the_items k new) (λ m q. good (put m) q)
+items_turn ts new put e k = items_by k ts ∙ ap (λ o. outcome_bind o (items_after k)) e
 
 pub items_end : (ts new : List Token) → the_item ts ≡ good None new → (k : ℕ) → the_items (suc k) ts ≡ good no_items new
-items_end ts new e k = items_by k ts ∙ ap (λ o. bind o (items_after k)) e
+items_end ts new e k = items_by k ts ∙ ap (λ o. outcome_bind o (items_after k)) e
 
 -- the items so far, and how many commands there were before and after them
 pub record ItemsSoFar (start : ℕ) (decls : List Decl) (functions : List Function) (count : ℕ) (put : ItemsText → ItemsText) : Type 0 where
@@ -112,7 +112,7 @@ items_done given so = record {
 pub decl_made : (d : Decl) (w : WrittenType) (word : Place) (n : NameText) (colon : Place) (t : TypeText) (semicolon : Place) → d.name ≡ ref_of n → SameType w t → d.shape ≡ w.shape → d.shape_places ≡ w.places
     → SameDecl d (λ more. decl_then word n colon t semicolon more)
 decl_made d w word n colon t semicolon e s f g = record {
-  decls = λ more. ap (λ x. x ∷ decls_of more) (sym (ap (λ r. declares r d.shape d.shape_places) e ∙ (ap (λ r. declares (ref_of n) r d.shape_places) (f ∙ s.shape) ∙ ap (λ r. declares (ref_of n) (shape_of t) r) (g ∙ s.places))));
+  decls = λ more. ap (λ x. x ∷ decls_of more) (sym (ap (λ r. declares r d.shape d.shape_places) e ∙ (ap (λ r. declares (ref_of n) r d.shape_places) (f ∙ s.shape) ∙ ap (λ r. declares (ref_of n) (shape_of_text t) r) (g ∙ s.places))));
   functions = λ id more. refl;
   counted = λ more. refl;
 }
@@ -123,22 +123,22 @@ function_made f old mid new word n opener ps equal b w e p m s = record {
   decls = λ more. refl;
   functions = λ more. ap (λ x. x ∷ functions_of (old + count_block b) more) (sym (ap (λ r. defines r f.name (map formal_seen f.parameters.items) (action_seen f.body)) w
       ∙ (ap (λ r. defines word r (map formal_seen f.parameters.items) (action_seen f.body)) e ∙ (ap (λ r. defines word (ref_of n) r (action_seen f.body)) p
-      ∙ ap (λ r. defines word (ref_of n) (formals_of ps) r) (s.is ∙ ap (λ k. block_of k b) m)))))
+      ∙ ap (λ r. defines word (ref_of n) (formals_of ps) r) (s.is ∙ ap (λ k. block_of_text k b) m)))))
       ∙ ap (λ k. defined_seen f ∷ functions_of k more) (sym (s.counted ∙ ap (λ k. k + count_block b) m));
   counted = λ more. all_counted old mid new (count_block b) (count_items more) m s.counted;
 }
 
 pub parameters_go : (ts : List Token) → comes mark.Comma ts ≡ true → (n : ℕ)
-    → more_parameters (suc n) ts ≡ bind (further_parameter ts) (λ a r. bind (more_parameters n r) (λ more r. good (parameter_then a.0 a.1 more) r))
+    → more_parameters (suc n) ts ≡ outcome_bind (further_parameter ts) (λ a r. outcome_bind (more_parameters n r) (λ more r. good (parameter_then a.0 a.1 more) r))
 parameters_go ts e n = if_true (comes mark.Comma ts) _ _ e ∙ sym (
     assoc (the mark.Comma ts) _ _ ∙ same_bind (the mark.Comma ts) _ _ λ comma r0.
     assoc (the_parameter r0) _ _)
 
-pub parameters_end : (ts : List Token) → comes mark.Comma ts ≡ false → (n : ℕ) → more_parameters (suc n) ts ≡ bind (the mark.CloseParen ts) (λ closer r. good (no_more_parameters closer) r)
+pub parameters_end : (ts : List Token) → comes mark.Comma ts ≡ false → (n : ℕ) → more_parameters (suc n) ts ≡ outcome_bind (the mark.CloseParen ts) (λ closer r. good (no_more_parameters closer) r)
 parameters_end ts e n = if_false (comes mark.Comma ts) _ _ e
 
 pub some_parameters_is : (ts : List Token) → comes mark.CloseParen ts ≡ false
-    → bind (the_parameter ts) (λ p r. bind (more_parameters (steps r) r) (λ more r. good (some_parameters p more) r)) ≡ the_parameters ts
+    → outcome_bind (the_parameter ts) (λ p r. outcome_bind (more_parameters (steps r) r) (λ more r. good (some_parameters p more) r)) ≡ the_parameters ts
 some_parameters_is ts e = sym (if_false (comes mark.CloseParen ts) _ _ e)
 
 -- the text of an item that was read
@@ -176,12 +176,12 @@ program_made given body t parts end old mid es z s h n =
     ∙ ap (λ x. program_as (decls_of t) (functions_of 0 t) x []) (h ∙ ap (λ k. body_of k parts end) (numbers old mid (count_items t) z s.counted))))
 
 -- the reader of programs, by the readers of their parts
-pub program_is : (ts : List Token) → the_program ts ≡ bind (the_items (steps ts) ts) (λ items r. bind (the_body r) (λ t q. good (program_text items t.0 t.1) q))
+pub program_is : (ts : List Token) → the_program ts ≡ outcome_bind (the_items (steps ts) ts) (λ items r. outcome_bind (the_body r) (λ t q. good (program_text items t.0 t.1) q))
 program_is ts =
     same_bind (the_items (steps ts) ts) _ _ λ items r.
-    ap (λ o. bind o (λ parts p. bind (the mark.End p) (λ end q. good (program_text items parts end) q))) (parts_is r)
+    ap (λ o. outcome_bind o (λ parts p. outcome_bind (the mark.End p) (λ end q. good (program_text items parts end) q))) (parts_is r)
     ∙ sym (assoc (the_parts the_block (steps r) r) _ _ ∙ same_bind (the_parts the_block (steps r) r) _ _ λ parts p. assoc (the mark.End p) _ _)
 
 pub body_is : (ts mid new : List Token) (parts : PartsText) (end : Place) → the_parts the_block (steps ts) ts ≡ good parts mid → the mark.End mid ≡ good end new → the_body ts ≡ good (parts, end) new
 body_is ts mid new parts end e f =
-    ap (λ o. bind o (λ parts p. bind (the mark.End p) (λ end q. good (parts, end) q))) e ∙ ap (λ o. bind o (λ end q. good (parts, end) q)) f
+    ap (λ o. outcome_bind o (λ parts p. outcome_bind (the mark.End p) (λ end q. good (parts, end) q))) e ∙ ap (λ o. outcome_bind o (λ end q. good (parts, end) q)) f

@@ -4,7 +4,7 @@ use Rattle.dh_lexer.specs.declared.tokens.TokenKind.{TokenKind}
 use Rattle.dh_lexer.specs.declared.tokens.TokenKind.TheVariants as kind
 use Rattle.dh_parser.specs.declared.parsing.reading.Mark.{Mark}
 use Rattle.dh_parser.specs.declared.parsing.reading.Mark.TheVariants as mark
-use Rattle.dh_parser.specs.Marks.{kind_of_mark, code, is_same, is_mark}
+use Rattle.dh_parser.specs.Marks.{kind_of_mark, code, is_same_mark, is_mark}
 
 abbrev decode : ℕ → Mark
 decode n =
@@ -67,7 +67,7 @@ decoded mark.End = refl
 same_code : (m n : Mark) → code m ≡ code n → m ≡ n
 same_code m n e = sym (decoded m) ∙ (ap decode e ∙ decoded n)
 
-same_mark : (n m : Mark) → is_same (Some n) m ≡ true → n ≡ m
+same_mark : (n m : Mark) → is_same_mark (Some n) m ≡ true → n ≡ m
 same_mark n m e = same_code n m (eqb-true (code n) (code m) e)
 
 none_is_same : (m : Mark) → false ≡ true → (k : TokenKind) → k ≡ kind_of_mark m

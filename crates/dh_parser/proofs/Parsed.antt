@@ -10,20 +10,20 @@ use Rattle.dh_tree.specs.Seen.{program_seen}
 use Rattle.dh_parser.specs.declared.parsing.reading.Stop.TheVariants as stop
 use Rattle.dh_parser.specs.Grammar.{ProgramText}
 use Rattle.dh_parser.specs.Spelling.{spell_program}
-use Rattle.dh_parser.specs.Programs.{Spells, OutOfPlace, IsSound, IsPlaced, Parses, rule_at}
-use Rattle.dh_parser.specs.Answers.{AnswersBy, Answers, SameProgram}
+use Rattle.dh_parser.specs.Programs.{Spells, OutOfPlace, IsSoundReading, IsPlaced, Parses, rule_at}
+use Rattle.dh_parser.specs.Answers.{AnswersBy, AnswersOutcome, SameProgram}
 use Rattle.dh_parser.specs.Reading.{Outcome, good, bad, deep, the_program}
 use Rattle.dh_parser.proofs.Going.{known}
 use Rattle.dh_parser.proofs.SoundPrograms.{program_sound}
 use Rattle.dh_parser.proofs.PlacedTokens.{programs_are_placed}
 
-spells_by : (ts rest : List Token) (tree : Tree) (p : ProgramText) (o : Outcome ProgramText) → o ≡ good p rest → SameProgram tree p → IsSound ts o → IsPlaced ts o → Spells (program_seen tree) ts
+spells_by : (ts rest : List Token) (tree : Tree) (p : ProgramText) (o : Outcome ProgramText) → o ≡ good p rest → SameProgram tree p → IsSoundReading ts o → IsPlaced ts o → Spells (program_seen tree) ts
 spells_by ts rest tree p o e s sound placed =
-    let h = subst (λ u. IsSound ts u) e sound in
+    let h = subst (λ u. IsSoundReading ts u) e sound in
     let none = subst (λ u. IsPlaced ts u) e placed in
     record { text = p; fits = h.0; tokens_are = sym (h.1 ∙ ap (spell_program p) none); tree_is = sym s }
 
-pub parsed : {ts rest : List Token} {tree : Tree} → AreEnded ts → Answers SameProgram (Ok tree) rest (the_program ts) → Spells (program_seen tree) ts
+pub parsed : {ts rest : List Token} {tree : Tree} → AreEnded ts → AnswersOutcome SameProgram (Ok tree) rest (the_program ts) → Spells (program_seen tree) ts
 parsed {ts = ts} {rest = rest} {tree = tree} ended h =
     let k = known h in
     spells_by ts rest tree k.0 (the_program ts) k.1.1 k.1.0 (program_sound ts) (programs_are_placed ts ended)
@@ -45,7 +45,7 @@ stopped_by s ts rest (good p r) h k = absurd h
 stopped_by s ts rest (bad r) h k = stopped_at ts rest r h k
 stopped_by s ts rest deep h k = absurd h
 
-pub stopped : {A : Type 0} {s : A → ProgramText → Type 0} {ts rest : List Token} → AreEnded ts → Answers s (Err stop.Here) rest (the_program ts) → Stopped ts rest
+pub stopped : {A : Type 0} {s : A → ProgramText → Type 0} {ts rest : List Token} → AreEnded ts → AnswersOutcome s (Err stop.Here) rest (the_program ts) → Stopped ts rest
 stopped {s = s} {ts = ts} {rest = rest} ended h = stopped_by s ts rest (the_program ts) h.holds (programs_are_placed ts ended)
 
 difference : (n b k : ℕ) → n ≡ b + (k + 1) → n - (k + 1) ≡ b

@@ -11,8 +11,8 @@ use Rattle.dh_parser.specs.declared.parsing.reading.Mark.TheVariants as mark
 use Rattle.dh_parser.specs.Marks.{comes}
 use Rattle.dh_parser.specs.Grammar.{SimpleText, CompoundText, PartText, end_of_part, last_simple, simple_then, compound_then, semicolon_then, PartsText, last_part, part_then}
 use Rattle.dh_parser.specs.TreesOfTexts.{simple_place, simple_form, part_of, parts_of, count_part, count_parts, compound_of, count_compound}
-use Rattle.dh_parser.specs.Answers.{SamePart, SameParts, Numbered, PartNumbered}
-use Rattle.dh_parser.specs.Reading.{good, bind, the, the_simple, the_compound, the_block, the_part, the_parts, part_with, beginning, Beginning, begins_simple, begins_compound, begins_semicolon, steps}
+use Rattle.dh_parser.specs.Answers.{SamePart, SameParts, CommandNumbered, PartNumbered}
+use Rattle.dh_parser.specs.Reading.{good, outcome_bind, the, the_simple, the_compound, the_block, the_part, the_parts, part_with, beginning, Beginning, begins_simple, begins_compound, begins_semicolon, steps}
 use Rattle.dh_parser.proofs.Going.{if_true, if_false}
 
 abbrev pub actions_on : List Action → Actions → Actions
@@ -88,7 +88,7 @@ simple_more {start = start} {cs = cs} {new = new} {n = n} {m = m} {put = put} c 
 }
 
 pub compound_more : {start : ℕ} {cs new : List Command} {n m : ℕ} {put : PartText → PartText} (c : Command) (t : CompoundText)
-    → Numbered (action_seen c) (compound_of n t) n m (count_compound t) → new ≡ cs ++ (c ∷ []) → PartSoFar start cs n put → PartSoFar start new m (λ more. put (compound_then t more))
+    → CommandNumbered (action_seen c) (compound_of n t) n m (count_compound t) → new ≡ cs ++ (c ∷ []) → PartSoFar start cs n put → PartSoFar start new m (λ more. put (compound_then t more))
 compound_more {start = start} {cs = cs} {new = new} {n = n} {m = m} {put = put} c t h g so = record {
   is = λ more. actions_listed cs c (part_of m more) (so.is (compound_then t more) ∙ ap (λ k. actions_on (map action_seen cs) (action_then (compound_of n t) (part_of k more))) (sym h.counted)) g h.is;
   counted = λ more. some_more (start + count_part (put (compound_then t more))) n m (count_compound t) (count_part more) (so.counted (compound_then t more)) h.counted;
@@ -127,38 +127,38 @@ part_moved h e = record { is = h.is; counted = e ∙ h.counted }
 
 -- the turns of the reader of parts, of which it is known what they read
 pub simple_turn : (ts mid new : List Token) (s : SimpleText) (semicolon : Place) → begins_simple ≡ beginning ts → the_simple ts ≡ good s mid → comes mark.Semicolon mid ≡ true → the mark.Semicolon mid ≡ good semicolon new → (k : ℕ)
-    → the_part the_block (suc k) ts ≡ bind (the_part the_block k new) (λ m r. good (simple_then s semicolon m) r)
+    → the_part the_block (suc k) ts ≡ outcome_bind (the_part the_block k new) (λ m r. good (simple_then s semicolon m) r)
 simple_turn ts mid new s semicolon b e c d k =
     ap (λ x. part_with the_block (the_part the_block k) ts x) (sym b)
-    ∙ (ap (λ o. bind o (λ s r. if comes mark.Semicolon r then bind (the mark.Semicolon r) (λ semicolon q. bind (the_part the_block k q) (λ more p. good (simple_then s semicolon more) p)) else good (last_simple s) r)) e
-    ∙ (if_true (comes mark.Semicolon mid) _ _ c ∙ ap (λ o. bind o (λ semicolon q. bind (the_part the_block k q) (λ more p. good (simple_then s semicolon more) p))) d))
+    ∙ (ap (λ o. outcome_bind o (λ s r. if comes mark.Semicolon r then outcome_bind (the mark.Semicolon r) (λ semicolon q. outcome_bind (the_part the_block k q) (λ more p. good (simple_then s semicolon more) p)) else good (last_simple s) r)) e
+    ∙ (if_true (comes mark.Semicolon mid) _ _ c ∙ ap (λ o. outcome_bind o (λ semicolon q. outcome_bind (the_part the_block k q) (λ more p. good (simple_then s semicolon more) p))) d))
 
 pub simple_last : (ts mid : List Token) (s : SimpleText) → begins_simple ≡ beginning ts → the_simple ts ≡ good s mid → comes mark.Semicolon mid ≡ false → (k : ℕ) → the_part the_block (suc k) ts ≡ good (last_simple s) mid
 simple_last ts mid s b e c k =
     ap (λ x. part_with the_block (the_part the_block k) ts x) (sym b)
-    ∙ (ap (λ o. bind o (λ s r. if comes mark.Semicolon r then bind (the mark.Semicolon r) (λ semicolon q. bind (the_part the_block k q) (λ more p. good (simple_then s semicolon more) p)) else good (last_simple s) r)) e
+    ∙ (ap (λ o. outcome_bind o (λ s r. if comes mark.Semicolon r then outcome_bind (the mark.Semicolon r) (λ semicolon q. outcome_bind (the_part the_block k q) (λ more p. good (simple_then s semicolon more) p)) else good (last_simple s) r)) e
     ∙ if_false (comes mark.Semicolon mid) _ _ c)
 
 pub compound_turn : (ts new : List Token) (c : CompoundText) → begins_compound ≡ beginning ts → the_compound the_block ts ≡ good c new → (k : ℕ)
-    → the_part the_block (suc k) ts ≡ bind (the_part the_block k new) (λ m r. good (compound_then c m) r)
+    → the_part the_block (suc k) ts ≡ outcome_bind (the_part the_block k new) (λ m r. good (compound_then c m) r)
 compound_turn ts new c b e k =
-    ap (λ x. part_with the_block (the_part the_block k) ts x) (sym b) ∙ ap (λ o. bind o (λ c r. bind (the_part the_block k r) (λ more p. good (compound_then c more) p))) e
+    ap (λ x. part_with the_block (the_part the_block k) ts x) (sym b) ∙ ap (λ o. outcome_bind o (λ c r. outcome_bind (the_part the_block k r) (λ more p. good (compound_then c more) p))) e
 
 pub semicolon_turn : (ts new : List Token) (semicolon : Place) → begins_semicolon ≡ beginning ts → the mark.Semicolon ts ≡ good semicolon new → (k : ℕ)
-    → the_part the_block (suc k) ts ≡ bind (the_part the_block k new) (λ m r. good (semicolon_then semicolon m) r)
+    → the_part the_block (suc k) ts ≡ outcome_bind (the_part the_block k new) (λ m r. good (semicolon_then semicolon m) r)
 semicolon_turn ts new semicolon b e k =
-    ap (λ x. part_with the_block (the_part the_block k) ts x) (sym b) ∙ ap (λ o. bind o (λ c r. bind (the_part the_block k r) (λ more p. good (semicolon_then c more) p))) e
+    ap (λ x. part_with the_block (the_part the_block k) ts x) (sym b) ∙ ap (λ o. outcome_bind o (λ c r. outcome_bind (the_part the_block k r) (λ more p. good (semicolon_then c more) p))) e
 
 pub part_by : (ts : List Token) (b : Beginning) → b ≡ beginning ts → (k : ℕ) → the_part the_block (suc k) ts ≡ part_with the_block (the_part the_block k) ts b
 part_by ts b e k = ap (λ x. part_with the_block (the_part the_block k) ts x) (sym e)
 
 pub parts_turn : (ts mid new : List Token) (p : PartText) (dashes : Place) → the_part the_block (steps ts) ts ≡ good p mid → comes mark.Dashes mid ≡ true → the mark.Dashes mid ≡ good dashes new → (k : ℕ)
-    → the_parts the_block (suc k) ts ≡ bind (the_parts the_block k new) (λ m r. good (part_then p dashes m) r)
+    → the_parts the_block (suc k) ts ≡ outcome_bind (the_parts the_block k new) (λ m r. good (part_then p dashes m) r)
 parts_turn ts mid new p dashes e c d k =
-    ap (λ o. bind o (λ p r. if comes mark.Dashes r then bind (the mark.Dashes r) (λ dashes q. bind (the_parts the_block k q) (λ more u. good (part_then p dashes more) u)) else good (last_part p) r)) e
-    ∙ (if_true (comes mark.Dashes mid) _ _ c ∙ ap (λ o. bind o (λ dashes q. bind (the_parts the_block k q) (λ more u. good (part_then p dashes more) u))) d)
+    ap (λ o. outcome_bind o (λ p r. if comes mark.Dashes r then outcome_bind (the mark.Dashes r) (λ dashes q. outcome_bind (the_parts the_block k q) (λ more u. good (part_then p dashes more) u)) else good (last_part p) r)) e
+    ∙ (if_true (comes mark.Dashes mid) _ _ c ∙ ap (λ o. outcome_bind o (λ dashes q. outcome_bind (the_parts the_block k q) (λ more u. good (part_then p dashes more) u))) d)
 
 pub parts_last : (ts mid : List Token) (p : PartText) → the_part the_block (steps ts) ts ≡ good p mid → comes mark.Dashes mid ≡ false → (k : ℕ) → the_parts the_block (suc k) ts ≡ good (last_part p) mid
 parts_last ts mid p e c k =
-    ap (λ o. bind o (λ p r. if comes mark.Dashes r then bind (the mark.Dashes r) (λ dashes q. bind (the_parts the_block k q) (λ more u. good (part_then p dashes more) u)) else good (last_part p) r)) e
+    ap (λ o. outcome_bind o (λ p r. if comes mark.Dashes r then outcome_bind (the mark.Dashes r) (λ dashes q. outcome_bind (the_parts the_block k q) (λ more u. good (part_then p dashes more) u)) else good (last_part p) r)) e
     ∙ if_false (comes mark.Dashes mid) _ _ c

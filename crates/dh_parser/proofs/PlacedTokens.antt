@@ -12,7 +12,7 @@ use Rattle.dh_parser.specs.Marks.{is_mark}
 use Rattle.dh_parser.specs.Grammar.{ProgramText}
 use Rattle.dh_parser.specs.Spelling.{put, spell_program}
 use Rattle.dh_parser.specs.Reading.{Outcome, the_program, good, bad, deep}
-use Rattle.dh_parser.specs.Programs.{Begins, OutOfPlace, IsAnswered, IsSound, IsPlaced}
+use Rattle.dh_parser.specs.Programs.{Begins, OutOfPlace, IsAnswered, IsSoundReading, IsPlaced}
 use Rattle.dh_parser.proofs.SoundPrograms.{program_sound}
 use Rattle.dh_parser.proofs.StepsOfPrograms.{program_answered}
 use Rattle.dh_parser.proofs.AgainPrograms.{program_again}
@@ -106,7 +106,7 @@ placed_at tokens t after stop s = (
   },
 )
 
-placed_from : (tokens : List Token) → AreEnded tokens → (o : Outcome ProgramText) → the_program tokens ≡ o → IsAnswered o → IsSound tokens o → StopsAt (λ x. x) tokens o → IsPlaced tokens o
+placed_from : (tokens : List Token) → AreEnded tokens → (o : Outcome ProgramText) → the_program tokens ≡ o → IsAnswered o → IsSoundReading tokens o → StopsAt (λ x. x) tokens o → IsPlaced tokens o
 placed_from tokens h (good p rest) e answered is_sound stops = all_read tokens h p rest is_sound.1
 placed_from tokens h (bad []) e answered is_sound stops = not_at_end tokens h e stops
 placed_from tokens h (bad (t ∷ after)) e answered is_sound stops = placed_at tokens t after e stops

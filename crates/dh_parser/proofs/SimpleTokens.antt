@@ -6,26 +6,27 @@ use Rattle.dh_lexer.specs.declared.tokens.TokenKind.{TokenKind}
 use Rattle.dh_lexer.specs.declared.tokens.TokenKind.TheVariants as kind
 use Rattle.dh_value.specs.declared.operators.Op.{Op}
 use Rattle.dh_parser.specs.Grammar.{NameText, ReducerText, SimpleText, AccessText}
-use Rattle.dh_parser.specs.TreesOfTexts.{reducer_op, access_of, place_of}
-use Rattle.dh_parser.specs.Reading.{Outcome, bad, bind, the, the_name, name_from, reducer_from, reduce_from, after_name_from, after_name, simple_from, the_simple, the_index, more_indices, access_from, Reads, steps}
+use Rattle.dh_parser.specs.TreesOfTexts.{reducer_op, access_of_text}
+use Rattle.dh_parser.specs.Reading.{Outcome, bad, outcome_bind, the, the_name, name_from, reducer_from, reduce_from, after_name_from, after_name, simple_from, the_simple, the_index, more_indices, access_from, ExpressionReader, steps}
 use Rattle.dh_parser.specs.declared.parsing.reading.Mark.TheVariants as mark
 use Rattle.dh_parser.specs.Marks.{comes}
 use Rattle.dh_parser.specs.Reading.{the_number}
-use Rattle.dh_parser.specs.Answers.{StandsAt}
+use Rattle.dh_parser.specs.Answers.{IsFirstTokenPlace}
 use Rattle.dh_parser.proofs.Going.{AllOf, all_then}
+use Rattle.dh_tree.specs.Kinds.{place_of}
 
 pub simple_at : (all ts : List Token) (t : Token) (k : TokenKind) → all ≡ t ∷ ts → t.kind ≡ k → the_simple all ≡ simple_from k t ts
 simple_at all ts t k e f = ap the_simple e ∙ ap (λ x. simple_from x t ts) f
 
-named_from : (k : TokenKind) (t : Token) (ts : List Token) → (k ≡ kind.Let → ⊥) → (k ≡ kind.View → ⊥) → simple_from k t ts ≡ bind (name_from k t ts) (λ n r. after_name n r)
+named_from : (k : TokenKind) (t : Token) (ts : List Token) → (k ≡ kind.Let → ⊥) → (k ≡ kind.View → ⊥) → simple_from k t ts ≡ outcome_bind (name_from k t ts) (λ n r. after_name n r)
 named_from kind.Let t ts a b = absurd (a refl)
 named_from kind.View t ts a b = absurd (b refl)
 named_from (kind.Name n) t ts a b = refl
 named_from _ t ts a b = refl
 
 -- a command that begins with neither word begins with a name
-pub named_simple : (all ts : List Token) (t : Token) → all ≡ t ∷ ts → (t.kind ≡ kind.Let → ⊥) → (t.kind ≡ kind.View → ⊥) → the_simple all ≡ bind (the_name all) (λ n r. after_name n r)
-named_simple all ts t e a b = ap the_simple e ∙ (named_from t.kind t ts a b ∙ ap (λ l. bind (the_name l) (λ n r. after_name n r)) (sym e))
+pub named_simple : (all ts : List Token) (t : Token) → all ≡ t ∷ ts → (t.kind ≡ kind.Let → ⊥) → (t.kind ≡ kind.View → ⊥) → the_simple all ≡ outcome_bind (the_name all) (λ n r. after_name n r)
+named_simple all ts t e a b = ap the_simple e ∙ (named_from t.kind t ts a b ∙ ap (λ l. outcome_bind (the_name l) (λ n r. after_name n r)) (sym e))
 
 pub after_at : (n : NameText) (all ts : List Token) (t : Token) (k : TokenKind) → all ≡ t ∷ ts → t.kind ≡ k → after_name n all ≡ after_name_from n k t ts
 after_at n all ts t k e f = ap (after_name n) e ∙ ap (λ x. after_name_from n x t ts) f
@@ -51,8 +52,8 @@ pub reduces_at : (n : NameText) (all ts : List Token) (t : Token) → all ≡ t 
 reduces_at n all ts t e a b c d = ap (after_name n) e ∙ reduces_by n t.kind t ts a b c d
 
 -- an access begins at its name
-pub access_starts : (read : Reads) (n : NameText) (ts : List Token) → AllOf (λ a. place_of (access_of a) ≡ n.place) (access_from read n ts)
-access_starts read n ts = by (λ a. place_of (access_of a) ≡ n.place) (comes mark.OpenBrace ts) _ _
+pub access_starts : (read : ExpressionReader) (n : NameText) (ts : List Token) → AllOf (λ a. place_of (access_of_text a) ≡ n.place) (access_from read n ts)
+access_starts read n ts = by (λ a. place_of (access_of_text a) ≡ n.place) (comes mark.OpenBrace ts) _ _
     (all_then _ (the mark.OpenBrace ts) _ λ opener r0.
     all_then _ (the_number r0) _ λ bank r1.
     all_then _ (the mark.CloseBrace r1) _ λ closer r2.
@@ -72,13 +73,13 @@ name_starts_from : (p : Place) (k : TokenKind) (t : Token) (ts : List Token) →
 name_starts_from p (kind.Name n) t ts e = e
 name_starts_from p _ t ts e = tt
 
-pub name_starts : (p : Place) (ts : List Token) → StandsAt (Ok p) ts → AllOf (λ n. n.place ≡ p) (the_name ts)
+pub name_starts : (p : Place) (ts : List Token) → IsFirstTokenPlace (Ok p) ts → AllOf (λ n. n.place ≡ p) (the_name ts)
 name_starts p [] h = tt
 name_starts p (t ∷ ts) h = name_starts_from p t.kind t ts (sym h)
 
-pub stands : (p : Place) (all ts : List Token) (t : Token) → all ≡ t ∷ ts → StandsAt (Ok p) all → t.place ≡ p
-stands p all ts t e h = sym (subst (λ l. StandsAt (Ok p) l) e h)
+pub stands : (p : Place) (all ts : List Token) (t : Token) → all ≡ t ∷ ts → IsFirstTokenPlace (Ok p) all → t.place ≡ p
+stands p all ts t e h = sym (subst (λ l. IsFirstTokenPlace (Ok p) l) e h)
 
-pub some_stand : (p : Place) (all : List Token) → StandsAt (Ok p) all → 0 < length all
+pub some_stand : (p : Place) (all : List Token) → IsFirstTokenPlace (Ok p) all → 0 < length all
 some_stand p [] h = absurd h
 some_stand p (t ∷ ts) h = omega arith

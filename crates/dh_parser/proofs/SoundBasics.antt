@@ -9,7 +9,7 @@ use Rattle.dh_lexer.specs.LexedText.{token_placed}
 use Rattle.dh_parser.specs.declared.parsing.reading.Mark.{Mark}
 use Rattle.dh_parser.specs.Marks.{kind_of_mark, is_mark}
 use Rattle.dh_parser.specs.Spelling.{put, put_name, put_number}
-use Rattle.dh_parser.specs.Reading.{Outcome, good, bad, deep, bind, the, name_from, the_name, number_from, the_number}
+use Rattle.dh_parser.specs.Reading.{Outcome, good, bad, deep, outcome_bind, the, name_from, the_name, number_from, the_number}
 use Rattle.dh_parser.proofs.MarksTold.{told}
 
 -- where something was read, this holds of it and of what is left
@@ -26,7 +26,7 @@ abbrev pub any : {A : Type 0} → A → Type 0
 any a = Unit {0}
 
 pub next : {A B : Type 0} (F : A → Type 0) (s : A → List Token → List Token) (ts : List Token) (Q : B → List Token → Type 0) (o : Outcome A) (go : A → List Token → Outcome B)
-    → Took F s ts o → ((a : A) (r : List Token) → F a → ts ≡ s a r → Good Q (go a r)) → Good Q (bind o go)
+    → Took F s ts o → ((a : A) (r : List Token) → F a → ts ≡ s a r → Good Q (go a r)) → Good Q (outcome_bind o go)
 next F s ts Q (good a r) go h k = k a r h.0 h.1
 next F s ts Q (bad r) go h k = tt
 next F s ts Q deep go h k = tt

@@ -11,8 +11,8 @@ use Rattle.dh_value.specs.declared.operators.Op.{Op}
 use Rattle.dh_value.specs.declared.operators.Op.TheVariants as op
 use Rattle.dh_parser.specs.Grammar.{ExprText, literal, negative, truth, variable, access, bracket, cast, binary}
 use Rattle.dh_parser.specs.Spelling.{put, sign_of, spell}
-use Rattle.dh_parser.specs.Allowed.{level, Fits}
-use Rattle.dh_parser.specs.Reading.{Outcome, good, bad, deep, bind, Sign, op_from, sign_text, sign_from, sign_at, Reads, operand, chain_with, chain, read}
+use Rattle.dh_parser.specs.Allowed.{level, ExpressionFits}
+use Rattle.dh_parser.specs.Reading.{Outcome, good, bad, deep, outcome_bind, Sign, op_from, sign_text, sign_from, sign_at, ExpressionReader, operand, chain_with, chain, read}
 use Rattle.dh_parser.proofs.SoundBasics.{Good, next}
 use Rattle.std.proofs.lemmas.Bool.Decides.{nat_tests}
 use Rattle.dh_parser.proofs.SoundOperands.{Sound, operand_took}
@@ -112,7 +112,7 @@ loose l (t ∷ ts) e o first =
 le-trans : (a b c : ℕ) → a ≤ b → b ≤ c → a ≤ c
 le-trans a b c h k = omega arith
 
-pub looser : (l m : ℕ) (e : ExprText) → l ≤ m → Fits m e → Fits l e
+pub looser : (l m : ℕ) (e : ExprText) → l ≤ m → ExpressionFits m e → ExpressionFits l e
 looser l m (literal n) h f = f
 looser l m (negative minus n) h f = f
 looser l m (truth holds word) h f = f
@@ -124,9 +124,9 @@ looser l m (binary o sign x y) h f = (le-trans l m (level o) h f.0, f.1)
 
 -- what an expression of this level is read as, and what it leaves
 abbrev pub Read : ℕ → List Token → ExprText → List Token → Type 0
-Read k ts x rest = (Fits k x × (ts ≡ spell x rest)) × (sign_at k rest ≡ None)
+Read k ts x rest = (ExpressionFits k x × (ts ≡ spell x rest)) × (sign_at k rest ≡ None)
 
-abbrev pub Tight : Reads → Type 0
+abbrev pub Tight : ExpressionReader → Type 0
 Tight rd = (k : ℕ) (ts : List Token) → Good (Read k ts) (rd k ts)
 
 good_weak : {A : Type 0} (P Q : A → List Token → Type 0) (o : Outcome A) → Good P o → ((a : A) (r : List Token) → P a r → Q a r) → Good Q o
@@ -135,13 +135,13 @@ good_weak P Q (bad r) p k = tt
 good_weak P Q deep p k = tt
 
 pub next_good : {A B : Type 0} (P : A → List Token → Type 0) (Q : B → List Token → Type 0) (o : Outcome A) (go : A → List Token → Outcome B)
-    → Good P o → ((a : A) (r : List Token) → P a r → Good Q (go a r)) → Good Q (bind o go)
+    → Good P o → ((a : A) (r : List Token) → P a r → Good Q (go a r)) → Good Q (outcome_bind o go)
 next_good P Q (good a r) go p k = k a r p
 next_good P Q (bad r) go p k = tt
 next_good P Q deep go p k = tt
 
-pub sound_of : (rd : Reads) → Tight rd → Sound rd
-sound_of rd h k ts = good_weak (Read k ts) (λ x rest. Fits k x × (ts ≡ spell x rest)) (rd k ts) (h k ts) (λ a r p. p.0)
+pub sound_of : (rd : ExpressionReader) → Tight rd → Sound rd
+sound_of rd h k ts = good_weak (Read k ts) (λ x rest. ExpressionFits k x × (ts ≡ spell x rest)) (rd k ts) (h k ts) (λ a r p. p.0)
 
 pub le-refl : (n : ℕ) → n ≤ n
 le-refl n = omega arith
@@ -154,10 +154,10 @@ high k x h = omega arith
 
 -- the rest of a chain, whose first operator binds at most as tightly as m, like what was read so far
 abbrev Chained : ℕ → List Token → (ExprText → List Token → Outcome ExprText) → Type 0
-Chained k all go = (m : ℕ) (e : ExprText) (ts : List Token) → k ≤ m → Fits m e → Below m ts → all ≡ spell e ts → Good (Read k all) (go e ts)
+Chained k all go = (m : ℕ) (e : ExprText) (ts : List Token) → k ≤ m → ExpressionFits m e → Below m ts → all ≡ spell e ts → Good (Read k all) (go e ts)
 
-chain_by : (rd : Reads) → Tight rd → (k : ℕ) (all : List Token) (go : ExprText → List Token → Outcome ExprText) → Chained k all go
-    → (m : ℕ) (e : ExprText) (ts : List Token) → k ≤ m → Fits m e → Below m ts → all ≡ spell e ts
+chain_by : (rd : ExpressionReader) → Tight rd → (k : ℕ) (all : List Token) (go : ExprText → List Token → Outcome ExprText) → Chained k all go
+    → (m : ℕ) (e : ExprText) (ts : List Token) → k ≤ m → ExpressionFits m e → Below m ts → all ≡ spell e ts
     → (x : Option Sign) → sign_at k ts ≡ x → Good (Read k all) (chain_with rd e ts go x)
 chain_by rd h k all go c m e ts km f below is None none = ((looser k m e km f, is), none)
 chain_by rd h k all go c m e ts km f below is (Some s) some =
@@ -167,7 +167,7 @@ chain_by rd h k all go c m e ts km f below is (Some s) some =
     c (level s.op) (binary s.op s.place e y) r sign.least (le-refl (level s.op), (looser (level s.op) m e l f, p.0.0)) (loose (level s.op) r p.1)
     (is ∙ ap (λ u. spell e u) (sign.tokens ∙ ap (λ u. put (sign_of s.op) s.place u) p.0.1))
 
-chain_tight : (rd : Reads) → Tight rd → (k : ℕ) (all : List Token) (n : ℕ) → Chained k all (λ e ts. chain rd n k e ts)
+chain_tight : (rd : ExpressionReader) → Tight rd → (k : ℕ) (all : List Token) (n : ℕ) → Chained k all (λ e ts. chain rd n k e ts)
 chain_tight rd h k all zero m e ts km f below is = tt
 chain_tight rd h k all (suc n) m e ts km f below is =
     chain_by rd h k all (λ x r. chain rd n k x r) (chain_tight rd h k all n) m e ts km f below is (sign_at k ts) refl
@@ -175,5 +175,5 @@ chain_tight rd h k all (suc n) m e ts km f below is =
 pub read_tight : (d : ℕ) (k : ℕ) (ts : List Token) → Good (Read k ts) (read d k ts)
 read_tight zero k ts = tt
 read_tight (suc d) k ts =
-    next (Fits (k + 10)) spell ts (Read k ts) (operand (read d) ts) (λ e r. chain (read d) (suc (length r)) k e r) (operand_took (read d) (sound_of (read d) (read_tight d)) (k + 10) ts) λ e r f is.
+    next (ExpressionFits (k + 10)) spell ts (Read k ts) (operand (read d) ts) (λ e r. chain (read d) (suc (length r)) k e r) (operand_took (read d) (sound_of (read d) (read_tight d)) (k + 10) ts) λ e r f is.
     chain_tight (read d) (read_tight d) k ts (suc (length r)) (k + 10) e r (low k) f (λ o _. high k (level o) (level_small o)) is

@@ -10,10 +10,10 @@ use Rattle.dh_parser.specs.declared.parsing.reading.Mark.TheVariants as mark
 use Rattle.dh_parser.specs.Marks.{comes}
 use Rattle.dh_parser.specs.Grammar.{HeadText, PartText, ParameterText, ItemsText, ProgramText}
 use Rattle.dh_parser.specs.Spelling.{put, put_name, put_number, spell_kind, spell_type, spell, spell_simple, spell_declared, spell_unroll, spell_head, spell_block, spell_parts, spell_part, spell_compound, spell_if, spell_else, spell_combine, spell_parameter, spell_more_parameters, spell_parameters, spell_items, spell_program}
-use Rattle.dh_parser.specs.Allowed.{KindFits, Fits, SimpleFits, DeclaredFits, BlockFits, PartsFit, PartFits, CompoundFits, IfFits, ElseFits, CombineFits, MoreParametersFit, ParametersFit, ItemsFit, ProgramFits}
+use Rattle.dh_parser.specs.Allowed.{KindFits, ExpressionFits, SimpleFits, DeclaredFits, BlockFits, AllPartsFit, PartFits, CompoundFits, IfFits, ElseFits, CombineFits, MoreParametersFit, ParametersFit, ItemsFit, ProgramFits}
 use Rattle.dh_parser.specs.Reading.{Outcome, good, bad, deep, the, the_name, the_number, the_kind, the_type, steps, the_expression, the_simple, the_declared, the_unroll, the_head, Blocks, the_if, the_while, the_combine, the_for, the_compound, Beginning, begins_simple, begins_compound, begins_semicolon, begins_nothing, beginning, part_with, the_part, the_parts, read_block, the_block, the_parameter, more_parameters, the_parameters, decl_from, def_from, items_from, the_items, the_program}
 use Rattle.dh_parser.proofs.SoundBasics.{Good, Took, any, next, either, put_mark, mark_took, name_took, number_took}
-use Rattle.dh_parser.specs.Programs.{IsSound}
+use Rattle.dh_parser.specs.Programs.{IsSoundReading}
 use Rattle.dh_parser.proofs.SoundTypes.{TypeFits, kind_took, type_took}
 use Rattle.dh_parser.proofs.SoundSimple.{expression_took, simple_took}
 
@@ -61,7 +61,7 @@ if_took blocks h zero ts = tt
 if_took blocks h (suc n) ts =
     next any (put_mark mark.If) ts _ (the mark.If ts) _ (mark_took mark.If ts) λ word r0 _ e0.
     next any (put_mark mark.OpenParen) r0 _ (the mark.OpenParen r0) _ (mark_took mark.OpenParen r0) λ opener r1 _ e1.
-    next (Fits 0) spell r1 _ (the_expression r1) _ (expression_took r1) λ x r2 f2 e2.
+    next (ExpressionFits 0) spell r1 _ (the_expression r1) _ (expression_took r1) λ x r2 f2 e2.
     next any (put_mark mark.CloseParen) r2 _ (the mark.CloseParen r2) _ (mark_took mark.CloseParen r2) λ closer r3 _ e3.
     next BlockFits spell_block r3 _ (blocks r3) _ (h r3) λ b r4 f4 e4.
     next ElseFits spell_else r4 _ _ _ (either _ (comes mark.Else r4) _ _
@@ -76,7 +76,7 @@ while_took : (blocks : Blocks) → SoundBlocks blocks → (ts : List Token) → 
 while_took blocks h ts =
     next any (put_mark mark.While) ts _ (the mark.While ts) _ (mark_took mark.While ts) λ word r0 _ e0.
     next any (put_mark mark.OpenParen) r0 _ (the mark.OpenParen r0) _ (mark_took mark.OpenParen r0) λ opener r1 _ e1.
-    next (Fits 0) spell r1 _ (the_expression r1) _ (expression_took r1) λ x r2 f2 e2.
+    next (ExpressionFits 0) spell r1 _ (the_expression r1) _ (expression_took r1) λ x r2 f2 e2.
     next any (put_mark mark.CloseParen) r2 _ (the mark.CloseParen r2) _ (mark_took mark.CloseParen r2) λ closer r3 _ e3.
     next BlockFits spell_block r3 _ (blocks r3) _ (h r3) λ b r4 f4 e4.
     ((f2, f4), cc)
@@ -131,14 +131,14 @@ pub part_took : (blocks : Blocks) → SoundBlocks blocks → (n : ℕ) (ts : Lis
 part_took blocks h zero ts = tt
 part_took blocks h (suc n) ts = part_with_took blocks h (the_part blocks n) (part_took blocks h n) ts (beginning ts)
 
-pub parts_took : (blocks : Blocks) → SoundBlocks blocks → (n : ℕ) (ts : List Token) → Took PartsFit spell_parts ts (the_parts blocks n ts)
+pub parts_took : (blocks : Blocks) → SoundBlocks blocks → (n : ℕ) (ts : List Token) → Took AllPartsFit spell_parts ts (the_parts blocks n ts)
 parts_took blocks h zero ts = tt
 parts_took blocks h (suc n) ts =
     next PartFits spell_part ts _ (the_part blocks (steps ts) ts) _ (part_took blocks h (steps ts) ts) λ p r f e.
     either _ (comes mark.Dashes r) _ _
     (λ _.
     next any (put_mark mark.Dashes) r _ (the mark.Dashes r) _ (mark_took mark.Dashes r) λ dashes r0 _ e0.
-    next PartsFit spell_parts r0 _ (the_parts blocks n r0) _ (parts_took blocks h n r0) λ more r1 f1 e1.
+    next AllPartsFit spell_parts r0 _ (the_parts blocks n r0) _ (parts_took blocks h n r0) λ more r1 f1 e1.
     ((f, f1), cc))
     (λ _. (f, e))
 
@@ -146,7 +146,7 @@ pub blocks_took : (d : ℕ) → SoundBlocks (read_block d)
 blocks_took zero ts = tt
 blocks_took (suc d) ts =
     next any (put_mark mark.OpenBrace) ts _ (the mark.OpenBrace ts) _ (mark_took mark.OpenBrace ts) λ opener r0 _ e0.
-    next PartsFit spell_parts r0 _ (the_parts (read_block d) (steps r0) r0) _ (parts_took (read_block d) (blocks_took d) (steps r0) r0) λ parts r1 f1 e1.
+    next AllPartsFit spell_parts r0 _ (the_parts (read_block d) (steps r0) r0) _ (parts_took (read_block d) (blocks_took d) (steps r0) r0) λ parts r1 f1 e1.
     next any (put_mark mark.CloseBrace) r1 _ (the mark.CloseBrace r1) _ (mark_took mark.CloseBrace r1) λ closer r2 _ e2.
     (f1, cc)
 
@@ -223,14 +223,14 @@ items_took (suc n) (t ∷ ts) = items_took_from (the_items n) (items_took n) t.k
 program_took : (ts : List Token) → Took ProgramFits spell_program ts (the_program ts)
 program_took ts =
     next ItemsFit spell_items ts _ (the_items (steps ts) ts) _ (items_took (steps ts) ts) λ items r0 f0 e0.
-    next PartsFit spell_parts r0 _ (the_parts (read_block (steps r0)) (steps r0) r0) _ (parts_took (read_block (steps r0)) (blocks_took (steps r0)) (steps r0) r0) λ parts r1 f1 e1.
+    next AllPartsFit spell_parts r0 _ (the_parts (read_block (steps r0)) (steps r0) r0) _ (parts_took (read_block (steps r0)) (blocks_took (steps r0)) (steps r0) r0) λ parts r1 f1 e1.
     next any (put_mark mark.End) r1 _ (the mark.End r1) _ (mark_took mark.End r1) λ end r2 _ e2.
     ((f0, f1), cc)
 
-sound_from : (ts : List Token) (o : Outcome ProgramText) → Took ProgramFits spell_program ts o → IsSound ts o
+sound_from : (ts : List Token) (o : Outcome ProgramText) → Took ProgramFits spell_program ts o → IsSoundReading ts o
 sound_from ts (good p rest) h = h
 sound_from ts (bad rest) h = tt
 sound_from ts deep h = tt
 
-pub program_sound : (ts : List Token) → IsSound ts (the_program ts)
+pub program_sound : (ts : List Token) → IsSoundReading ts (the_program ts)
 program_sound ts = sound_from ts (the_program ts) (program_took ts)

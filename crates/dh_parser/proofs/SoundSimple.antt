@@ -9,8 +9,8 @@ use Rattle.dh_parser.specs.declared.parsing.reading.Mark.TheVariants as mark
 use Rattle.dh_parser.specs.Marks.{comes}
 use Rattle.dh_parser.specs.Grammar.{NameText, ViewText, shrink, split, suffix, shift, ReducerText, adds, subtracts, multiplies, SimpleText, assign, call}
 use Rattle.dh_parser.specs.Spelling.{put, put_name, put_number, reducer_sign, spell_type, spell, spell_access, spell_more_arguments, spell_arguments, spell_factor, spell_suffix, spell_offset, spell_all, spell_view, spell_value, spell_simple}
-use Rattle.dh_parser.specs.Allowed.{Fits, AccessFits, MoreArgumentsFit, ArgumentsFit, SuffixFits, OffsetFits, AllFit, ViewFits, ValueFits, SimpleFits}
-use Rattle.dh_parser.specs.Reading.{Outcome, good, bind, the, name_text, the_name, the_number, the_type, access_from, operand, read, steps, the_expression, more_arguments, the_arguments, the_factor, the_suffix, the_offset, more_of, brackets, view_from, the_view, the_value, let_from, view_command_from, reduce_from, store_from, after_name_from, after_name, simple_from, the_simple, expression}
+use Rattle.dh_parser.specs.Allowed.{ExpressionFits, AccessFits, MoreArgumentsFit, ArgumentsFit, SuffixFits, OffsetFits, AllFit, ViewFits, ValueFits, SimpleFits}
+use Rattle.dh_parser.specs.Reading.{Outcome, good, outcome_bind, the, name_text, the_name, the_number, the_type, access_from, operand, read, steps, the_expression, more_arguments, the_arguments, the_factor, the_suffix, the_offset, more_of, brackets, view_from, the_view, the_value, let_from, view_command_from, reduce_from, store_from, after_name_from, after_name, simple_from, the_simple, expression}
 use Rattle.dh_parser.proofs.SoundBasics.{Good, Took, any, next, either, put_mark, mark_took, name_took, number_took}
 use Rattle.dh_parser.proofs.SoundTypes.{TypeFits, type_took}
 use Rattle.dh_parser.proofs.SoundOperands.{Sound, operand_took, access_took}
@@ -19,7 +19,7 @@ use Rattle.dh_parser.proofs.SoundOperators.{next_good, sound_of, read_tight}
 pub read_took : (d : ℕ) → Sound (read d)
 read_took d = sound_of (read d) (read_tight d)
 
-pub expression_took : (ts : List Token) → Took (Fits 0) spell ts (the_expression ts)
+pub expression_took : (ts : List Token) → Took (ExpressionFits 0) spell ts (the_expression ts)
 unfolding expression
 expression_took ts = read_took (steps ts) 0 ts
 
@@ -29,7 +29,7 @@ more_arguments_took (suc n) ts =
     either _ (comes mark.Comma ts) _ _
     (λ _.
     next any (put_mark mark.Comma) ts _ (the mark.Comma ts) _ (mark_took mark.Comma ts) λ comma r0 _ e0.
-    next (Fits 0) spell r0 _ (the_expression r0) _ (expression_took r0) λ x r1 f1 e1.
+    next (ExpressionFits 0) spell r0 _ (the_expression r0) _ (expression_took r0) λ x r1 f1 e1.
     next MoreArgumentsFit spell_more_arguments r1 _ (more_arguments n r1) _ (more_arguments_took n r1) λ more r2 f2 e2.
     ((f1, f2), cc))
     (λ _.
@@ -43,7 +43,7 @@ arguments_took ts =
     next any (put_mark mark.CloseParen) ts _ (the mark.CloseParen ts) _ (mark_took mark.CloseParen ts) λ closer r0 _ e0.
     (tt, cc))
     (λ _.
-    next (Fits 0) spell ts _ (the_expression ts) _ (expression_took ts) λ x r0 f0 e0.
+    next (ExpressionFits 0) spell ts _ (the_expression ts) _ (expression_took ts) λ x r0 f0 e0.
     next MoreArgumentsFit spell_more_arguments r0 _ (more_arguments (steps r0) r0) _ (more_arguments_took (steps r0) r0) λ more r1 f1 e1.
     ((f0, f1), cc))
 
@@ -61,7 +61,7 @@ suffix_took ts =
     next any (put_mark mark.By) r0 _ (the mark.By r0) _ (mark_took mark.By r0) λ word r1 _ e1.
     next any put_number r1 _ (the_number r1) _ (number_took r1) λ factor r2 _ e2.
     next any (put_mark mark.Star) r2 _ (the mark.Star r2) _ (mark_took mark.Star r2) λ sign r3 _ e3.
-    next (Fits 10) spell r3 _ (operand (read (steps r3)) r3) _ (operand_took (read (steps r3)) (read_took (steps r3)) 10 r3) λ offset r4 f4 e4.
+    next (ExpressionFits 10) spell r3 _ (operand (read (steps r3)) r3) _ (operand_took (read (steps r3)) (read_took (steps r3)) 10 r3) λ offset r4 f4 e4.
     next any (put_mark mark.CloseBracket) r4 _ (the mark.CloseBracket r4) _ (mark_took mark.CloseBracket r4) λ closer r5 _ e5.
     (f4, cc)
 
@@ -69,7 +69,7 @@ pub offset_took : (ts : List Token) → Took OffsetFits spell_offset ts (the_off
 offset_took ts =
     next any (put_mark mark.OpenBracket) ts _ (the mark.OpenBracket ts) _ (mark_took mark.OpenBracket ts) λ opener r0 _ e0.
     next any (put_mark mark.By) r0 _ (the mark.By r0) _ (mark_took mark.By r0) λ word r1 _ e1.
-    next (Fits 0) spell r1 _ (the_expression r1) _ (expression_took r1) λ offset r2 f2 e2.
+    next (ExpressionFits 0) spell r1 _ (the_expression r1) _ (expression_took r1) λ offset r2 f2 e2.
     next any (put_mark mark.CloseBracket) r2 _ (the mark.CloseBracket r2) _ (mark_took mark.CloseBracket r2) λ closer r3 _ e3.
     (f2, cc)
 
@@ -115,7 +115,7 @@ value_took ts =
     either _ (comes mark.Assign ts) _ _
     (λ _.
     next any (put_mark mark.Assign) ts _ (the mark.Assign ts) _ (mark_took mark.Assign ts) λ equal r0 _ e0.
-    next (Fits 0) spell r0 _ (the_expression r0) _ (expression_took r0) λ x r1 f1 e1.
+    next (ExpressionFits 0) spell r0 _ (the_expression r0) _ (expression_took r0) λ x r1 f1 e1.
     (f1, cc))
     (λ _. (tt, refl))
 
@@ -130,7 +130,7 @@ let_took word ts =
     ((f1, f2), cc))
     (λ _.
     next any (put_mark mark.Assign) r _ (the mark.Assign r) _ (mark_took mark.Assign r) λ equal r0 _ e0.
-    next (Fits 0) spell r0 _ (the_expression r0) _ (expression_took r0) λ x r1 f1 e1.
+    next (ExpressionFits 0) spell r0 _ (the_expression r0) _ (expression_took r0) λ x r1 f1 e1.
     (f1, cc))
 
 view_command_took : (word : Place) (ts : List Token) → Good (λ s rest. SimpleFits s × (put kind.View word ts ≡ spell_simple s rest)) (view_command_from word ts)
@@ -146,15 +146,15 @@ Named n ts s rest = SimpleFits s × (put_name n ts ≡ spell_simple s rest)
 
 reduce_took : (n : NameText) (sign : ReducerText) (place : Place) (ts : List Token) → Good (Named n (put (reducer_sign sign) place ts)) (reduce_from n sign place ts)
 reduce_took n sign place ts =
-    next (Fits 0) spell ts _ (the_expression ts) _ (expression_took ts) λ x r0 f0 e0.
+    next (ExpressionFits 0) spell ts _ (the_expression ts) _ (expression_took ts) λ x r0 f0 e0.
     (f0, cc)
 
-assign_took : (n : NameText) (place : Place) (ts : List Token) → Good (Named n (put kind.Becomes place ts)) (bind (the_expression ts) (λ e r. good (assign n place e) r))
+assign_took : (n : NameText) (place : Place) (ts : List Token) → Good (Named n (put kind.Becomes place ts)) (outcome_bind (the_expression ts) (λ e r. good (assign n place e) r))
 assign_took n place ts =
-    next (Fits 0) spell ts _ (the_expression ts) _ (expression_took ts) λ x r0 f0 e0.
+    next (ExpressionFits 0) spell ts _ (the_expression ts) _ (expression_took ts) λ x r0 f0 e0.
     (f0, cc)
 
-call_took : (n : NameText) (place : Place) (ts : List Token) → Good (Named n (put kind.OpenParen place ts)) (bind (the_arguments ts) (λ l r. good (call n place l) r))
+call_took : (n : NameText) (place : Place) (ts : List Token) → Good (Named n (put kind.OpenParen place ts)) (outcome_bind (the_arguments ts) (λ l r. good (call n place l) r))
 call_took n place ts =
     next ArgumentsFit spell_arguments ts _ (the_arguments ts) _ (arguments_took ts) λ l r0 f0 e0.
     (f0, cc)
@@ -163,7 +163,7 @@ store_took : (n : NameText) (ts : List Token) → Good (Named n ts) (store_from 
 store_took n ts =
     next_good (λ a rest. AccessFits a × (put_name n ts ≡ spell_access a rest)) (Named n ts) (access_from (read (steps ts)) n ts) _ (access_took (read (steps ts)) (read_took (steps ts)) n ts) λ a r p.
     next any (put_mark mark.Becomes) r _ (the mark.Becomes r) _ (mark_took mark.Becomes r) λ becomes r0 _ e0.
-    next (Fits 0) spell r0 _ (the_expression r0) _ (expression_took r0) λ x r1 f1 e1.
+    next (ExpressionFits 0) spell r0 _ (the_expression r0) _ (expression_took r0) λ x r1 f1 e1.
     ((p.0, f1), p.1 ∙ ap (λ l. spell_access a l) (e0 ∙ ap (λ l. put kind.Becomes becomes l) e1))
 
 after_took_from : (n : NameText) (k : TokenKind) (t : Token) (ts : List Token) → t.kind ≡ k → Good (Named n (token_placed k t.place ∷ ts)) (after_name_from n k t ts)

@@ -9,7 +9,7 @@ use Rattle.dh_parser.specs.declared.parsing.reading.Mark.TheVariants as mark
 use Rattle.dh_parser.specs.Marks.{comes}
 use Rattle.dh_parser.specs.Grammar.{TypeText}
 use Rattle.dh_parser.specs.Spelling.{put, put_number, spell_kind, spell_ports, spell_banks, spell_dims, spell_type}
-use Rattle.dh_parser.specs.Allowed.{IsWidth, KindFits}
+use Rattle.dh_parser.specs.Allowed.{WidthFits, KindFits}
 use Rattle.dh_parser.specs.Reading.{good, bad, the, number_text, the_number, is_width, width_from, the_width, kind_from, the_kind, the_ports, the_banks, the_dims, the_type}
 use Rattle.dh_parser.proofs.SoundBasics.{Took, any, next, either, put_mark, mark_took, number_took}
 
@@ -22,13 +22,13 @@ within n e =
     let both = within_both (nat_le 1 n) (nat_le n 64) e in
     (leb-true 1 n both.0, leb-true n 64 both.1)
 
-width_took_from : (k : TokenKind) (t : Token) (ts : List Token) → t.kind ≡ k → Took IsWidth put_number (t ∷ ts) (width_from k t ts)
+width_took_from : (k : TokenKind) (t : Token) (ts : List Token) → t.kind ≡ k → Took WidthFits put_number (t ∷ ts) (width_from k t ts)
 width_took_from (kind.Number n) t ts e =
-    either (λ w rest. IsWidth w × (t ∷ ts ≡ put_number w rest)) (is_width n) (good (number_text n t.place) ts) (bad (t ∷ ts))
+    either (λ w rest. WidthFits w × (t ∷ ts ≡ put_number w rest)) (is_width n) (good (number_text n t.place) ts) (bad (t ∷ ts))
     (λ w. (within n w, ap (λ k. token_placed k t.place ∷ ts) e)) (λ _. tt)
 width_took_from _ t ts e = tt
 
-pub width_took : (ts : List Token) → Took IsWidth put_number ts (the_width ts)
+pub width_took : (ts : List Token) → Took WidthFits put_number ts (the_width ts)
 width_took [] = tt
 width_took (t ∷ ts) = width_took_from t.kind t ts refl
 
@@ -36,12 +36,12 @@ kind_took_from : (k : TokenKind) (t : Token) (ts : List Token) → t.kind ≡ k 
 kind_took_from kind.Bool t ts e = (tt, ap (λ k. token_placed k t.place ∷ ts) e)
 kind_took_from kind.Bit t ts e =
     next any (put_mark mark.Less) ts _ (the mark.Less ts) _ (mark_took mark.Less ts) λ less r0 _ e0.
-    next IsWidth put_number r0 _ (the_width r0) _ (width_took r0) λ width r1 f1 e1.
+    next WidthFits put_number r0 _ (the_width r0) _ (width_took r0) λ width r1 f1 e1.
     next any (put_mark mark.Greater) r1 _ (the mark.Greater r1) _ (mark_took mark.Greater r1) λ greater r2 _ e2.
     (f1, ap (λ k. token_placed k t.place ∷ ts) e ∙ ap (λ l. put kind.Bit t.place l) (e0 ∙ ap (λ l. put kind.Less less l) (e1 ∙ ap (λ l. put_number width l) e2)))
 kind_took_from kind.Ubit t ts e =
     next any (put_mark mark.Less) ts _ (the mark.Less ts) _ (mark_took mark.Less ts) λ less r0 _ e0.
-    next IsWidth put_number r0 _ (the_width r0) _ (width_took r0) λ width r1 f1 e1.
+    next WidthFits put_number r0 _ (the_width r0) _ (width_took r0) λ width r1 f1 e1.
     next any (put_mark mark.Greater) r1 _ (the mark.Greater r1) _ (mark_took mark.Greater r1) λ greater r2 _ e2.
     (f1, ap (λ k. token_placed k t.place ∷ ts) e ∙ ap (λ l. put kind.Ubit t.place l) (e0 ∙ ap (λ l. put kind.Less less l) (e1 ∙ ap (λ l. put_number width l) e2)))
 kind_took_from _ t ts e = tt

@@ -10,7 +10,7 @@ use Rattle.dh_parser.specs.declared.parsing.reading.Mark.{Mark}
 use Rattle.dh_parser.specs.declared.parsing.reading.Mark.TheVariants as mark
 use Rattle.dh_parser.specs.Marks.{is_mark, comes}
 use Rattle.dh_parser.specs.Grammar.{NameText, NumberText, KindText, bit_kind, ubit_kind, ExprText, negative, binary}
-use Rattle.dh_parser.specs.Reading.{Outcome, good, bad, deep, bind, the, name_from, number_from, name_text, number_text, the_name, the_number, is_width, width_from, the_width, width_then, kind_from, the_kind, the_ports, the_banks, the_dims, the_type, Sign, op_from, sign_text, sign_from, sign_at, Reads, the_index, more_indices, access_from, goes_on, named_from, bracket_from, operand_from, operand, chain_with, chain, read}
+use Rattle.dh_parser.specs.Reading.{Outcome, good, bad, deep, outcome_bind, the, name_from, number_from, name_text, number_text, the_name, the_number, is_width, width_from, the_width, width_then, kind_from, the_kind, the_ports, the_banks, the_dims, the_type, Sign, op_from, sign_text, sign_from, sign_at, ExpressionReader, the_index, more_indices, access_from, access_goes_on, named_from, bracket_from, operand_from, operand, chain_with, chain, read}
 use Rattle.dh_parser.specs.Allowed.{level}
 
 -- a text of at least so many tokens was read, or none; reading did not give up
@@ -20,7 +20,7 @@ Left c n (bad rest) = Unit {0}
 Left c n deep = ⊥
 
 pub next_left : {A B : Type 0} (c n d k : ℕ) (o : Outcome A) (go : A → List Token → Outcome B)
-    → Left c n o → ((a : A) (r : List Token) → c + length r ≤ n → Left d k (go a r)) → Left d k (bind o go)
+    → Left c n o → ((a : A) (r : List Token) → c + length r ≤ n → Left d k (go a r)) → Left d k (outcome_bind o go)
 next_left c n d k (good a r) go h then_left = then_left a r h
 next_left c n d k (bad r) go h then_left = tt
 next_left c n d k deep go h then_left = h
@@ -166,17 +166,17 @@ tested true u s e = ap (λ (x : Option Sign). (unwrap_or x s).rest) (sym e)
 tested false u s e = absurd (none_some s e)
 
 -- a reader that does not give up on fewer than m tokens
-abbrev pub Enough : ℕ → Reads → Type 0
+abbrev pub Enough : ℕ → ExpressionReader → Type 0
 Enough m rd = (k : ℕ) (ts : List Token) → length ts < m → Left 1 (length ts) (rd k ts)
 
-pub index_left : (m : ℕ) (rd : Reads) → Enough m rd → (ts : List Token) → length ts ≤ m → Left 1 (length ts) (the_index rd ts)
+pub index_left : (m : ℕ) (rd : ExpressionReader) → Enough m rd → (ts : List Token) → length ts ≤ m → Left 1 (length ts) (the_index rd ts)
 index_left m rd h ts few =
     next_left 1 (length ts) _ _ (the mark.OpenBracket ts) _ (mark_left mark.OpenBracket ts) λ opener r0 l0.
     next_left 1 (length r0) _ _ (rd 0 r0) _ (h 0 r0 (omega arith)) λ x r1 l1.
     next_left 1 (length r1) _ _ (the mark.CloseBracket r1) _ (mark_left mark.CloseBracket r1) λ closer r2 l2.
     (omega arith)
 
-pub indices_left : (m : ℕ) (rd : Reads) → Enough m rd → (n : ℕ) (ts : List Token) → length ts ≤ m → length ts < n → Left 0 (length ts) (more_indices rd n ts)
+pub indices_left : (m : ℕ) (rd : ExpressionReader) → Enough m rd → (n : ℕ) (ts : List Token) → length ts ≤ m → length ts < n → Left 0 (length ts) (more_indices rd n ts)
 indices_left m rd h zero ts few k = absurd (none_below (length ts) k)
 indices_left m rd h (suc n) ts few k =
     either_left _ _ (comes mark.OpenBracket ts) _ _
@@ -186,7 +186,7 @@ indices_left m rd h (suc n) ts few k =
     (omega arith))
     (λ _. le-refl (length ts))
 
-pub access_left : (m : ℕ) (rd : Reads) → Enough m rd → (n : NameText) (ts : List Token) → length ts ≤ m → Left 1 (length ts) (access_from rd n ts)
+pub access_left : (m : ℕ) (rd : ExpressionReader) → Enough m rd → (n : NameText) (ts : List Token) → length ts ≤ m → Left 1 (length ts) (access_from rd n ts)
 access_left m rd h n ts few =
     either_left _ _ (comes mark.OpenBrace ts) _ _
     (λ _.
@@ -200,15 +200,15 @@ access_left m rd h n ts few =
     next_left 0 (length r0) _ _ (more_indices rd (suc (length r0)) r0) _ (indices_left m rd h (suc (length r0)) r0 (omega arith) (omega arith)) λ more r1 l1.
     (omega arith))
 
-named_left : (m : ℕ) (rd : Reads) → Enough m rd → (n : NameText) (ts : List Token) → length ts ≤ m → Left 0 (length ts) (named_from rd n ts)
+named_left : (m : ℕ) (rd : ExpressionReader) → Enough m rd → (n : NameText) (ts : List Token) → length ts ≤ m → Left 0 (length ts) (named_from rd n ts)
 named_left m rd h n ts few =
-    either_left _ _ (goes_on ts) _ _
+    either_left _ _ (access_goes_on ts) _ _
     (λ _.
     next_left 1 (length ts) _ _ (access_from rd n ts) _ (access_left m rd h n ts (omega arith)) λ a r0 l0.
     (omega arith))
     (λ _. le-refl (length ts))
 
-bracket_left : (m : ℕ) (rd : Reads) → Enough m rd → (opener : Place) (ts : List Token) → length ts < m → Left 0 (length ts) (bracket_from rd opener ts)
+bracket_left : (m : ℕ) (rd : ExpressionReader) → Enough m rd → (opener : Place) (ts : List Token) → length ts < m → Left 0 (length ts) (bracket_from rd opener ts)
 bracket_left m rd h opener ts few =
     next_left 1 (length ts) _ _ (rd 0 ts) _ (h 0 ts few) λ x r l.
     either_left _ _ (comes mark.As r) _ _
@@ -221,7 +221,7 @@ bracket_left m rd h opener ts few =
     next_left 1 (length r) _ _ (the mark.CloseParen r) _ (mark_left mark.CloseParen r) λ closer r0 l0.
     (omega arith))
 
-negative_left : (minus : Place) (ts : List Token) → Left 0 (length ts) (bind (the_number ts) (λ n r. good (negative minus n) r))
+negative_left : (minus : Place) (ts : List Token) → Left 0 (length ts) (outcome_bind (the_number ts) (λ n r. good (negative minus n) r))
 negative_left minus ts =
     next_left 1 (length ts) _ _ (the_number ts) _ (number_left ts) λ n r0 l0.
     (omega arith)
@@ -231,7 +231,7 @@ one_more n (good a r) h = omega arith
 one_more n (bad r) h = tt
 one_more n deep h = h
 
-operand_left_from : (m : ℕ) (rd : Reads) → Enough m rd → (kd : TokenKind) (t : Token) (ts : List Token) → length ts < m → Left 1 (length (t ∷ ts)) (operand_from rd kd t ts)
+operand_left_from : (m : ℕ) (rd : ExpressionReader) → Enough m rd → (kd : TokenKind) (t : Token) (ts : List Token) → length ts < m → Left 1 (length (t ∷ ts)) (operand_from rd kd t ts)
 operand_left_from m rd h (kind.Number n) t ts few = taken (length ts)
 operand_left_from m rd h kind.Minus t ts few = one_more (length ts) _ (negative_left t.place ts)
 operand_left_from m rd h kind.True t ts few = taken (length ts)
@@ -240,7 +240,7 @@ operand_left_from m rd h (kind.Name n) t ts few = one_more (length ts) _ (named_
 operand_left_from m rd h kind.OpenParen t ts few = one_more (length ts) _ (bracket_left m rd h t.place ts few)
 operand_left_from m rd h _ t ts few = tt
 
-pub operand_left : (m : ℕ) (rd : Reads) → Enough m rd → (ts : List Token) → length ts ≤ m → Left 1 (length ts) (operand rd ts)
+pub operand_left : (m : ℕ) (rd : ExpressionReader) → Enough m rd → (ts : List Token) → length ts ≤ m → Left 1 (length ts) (operand rd ts)
 operand_left m rd h [] few = tt
 operand_left m rd h (t ∷ ts) few = operand_left_from m rd h t.kind t ts (suc-lt (length ts) m few)
 
@@ -256,7 +256,7 @@ sign_shorter k (t ∷ ts) s e = subst (λ r. 1 + length r ≤ suc (length ts)) (
 abbrev pub Chains : ℕ → ℕ → (ExprText → List Token → Outcome ExprText) → Type 0
 Chains m n go = (e : ExprText) (ts : List Token) → length ts ≤ m → length ts < n → Left 0 (length ts) (go e ts)
 
-chain_left_by : (m n : ℕ) (rd : Reads) → Enough m rd → (k : ℕ) (go : ExprText → List Token → Outcome ExprText) → Chains m n go
+chain_left_by : (m n : ℕ) (rd : ExpressionReader) → Enough m rd → (k : ℕ) (go : ExprText → List Token → Outcome ExprText) → Chains m n go
     → (e : ExprText) (ts : List Token) → length ts ≤ m → length ts < suc n → (x : Option Sign) → sign_at k ts ≡ x → Left 0 (length ts) (chain_with rd e ts go x)
 chain_left_by m n rd h k go g e ts few more None none = le-refl (length ts)
 chain_left_by m n rd h k go g e ts few more (Some s) some =
@@ -264,7 +264,7 @@ chain_left_by m n rd h k go g e ts few more (Some s) some =
     next_left 1 (length s.rest) _ _ (rd (suc (level s.op)) s.rest) _ (h (suc (level s.op)) s.rest (below (length s.rest) (length ts) m l few)) λ f r l1.
     weaker 0 (length r) (length ts) _ (g (binary s.op s.place e f) r (first (length r) (length s.rest) (length ts) m l l1 few) (second (length r) (length s.rest) (length ts) n l l1 more)) (third (length r) (length s.rest) (length ts) l l1)
 
-pub chain_left : (m : ℕ) (rd : Reads) → Enough m rd → (k n : ℕ) → Chains m n (λ e ts. chain rd n k e ts)
+pub chain_left : (m : ℕ) (rd : ExpressionReader) → Enough m rd → (k n : ℕ) → Chains m n (λ e ts. chain rd n k e ts)
 chain_left m rd h k zero e ts few more = absurd (none_below (length ts) more)
 chain_left m rd h k (suc n) e ts few more = chain_left_by m n rd h k (λ f r. chain rd n k f r) (chain_left m rd h k n) e ts few more (sign_at k ts) refl
 

@@ -8,7 +8,7 @@ use Rattle.dh_lexer.specs.declared.tokens.TokenKind.TheVariants as kind
 use Rattle.dh_parser.specs.declared.parsing.reading.Mark.TheVariants as mark
 use Rattle.dh_parser.specs.Marks.{comes}
 use Rattle.dh_parser.specs.Grammar.{NameText, ViewText, shrink, split, suffix, shift, ReducerText, adds, subtracts, multiplies, assign, call, PartText, ItemsText, ProgramText}
-use Rattle.dh_parser.specs.Reading.{Outcome, good, bad, deep, bind, the, name_text, the_name, the_number, the_kind, the_type, access_from, operand, read, steps, the_expression, more_arguments, the_arguments, the_factor, the_suffix, the_offset, more_of, brackets, view_from, the_view, the_value, let_from, view_command_from, reduce_from, store_from, after_name_from, after_name, simple_from, the_simple, the_declared, the_unroll, the_head, Blocks, the_if, the_while, the_combine, the_for, the_compound, Beginning, begins_simple, begins_compound, begins_semicolon, begins_nothing, beginning, part_with, the_part, the_parts, read_block, the_block, the_parameter, more_parameters, the_parameters, decl_from, def_from, items_from, the_items, the_program, expression}
+use Rattle.dh_parser.specs.Reading.{Outcome, good, bad, deep, outcome_bind, the, name_text, the_name, the_number, the_kind, the_type, access_from, operand, read, steps, the_expression, more_arguments, the_arguments, the_factor, the_suffix, the_offset, more_of, brackets, view_from, the_view, the_value, let_from, view_command_from, reduce_from, store_from, after_name_from, after_name, simple_from, the_simple, the_declared, the_unroll, the_head, Blocks, the_if, the_while, the_combine, the_for, the_compound, Beginning, begins_simple, begins_compound, begins_semicolon, begins_nothing, beginning, part_with, the_part, the_parts, read_block, the_block, the_parameter, more_parameters, the_parameters, decl_from, def_from, items_from, the_items, the_program, expression}
 use Rattle.dh_parser.specs.Programs.{IsAnswered}
 use Rattle.dh_parser.proofs.StepsOfExpressions.{Left, next_left, either_left, mark_left, name_left, number_left, kind_left, type_left, access_left, operand_left, read_left, none_below, le-refl, lt-own, lt-suc, suc-lt}
 
@@ -132,12 +132,12 @@ reduce_left n sign place ts =
     next_left 1 (length ts) _ _ (the_expression ts) _ (expression_left ts) λ x r0 l0.
     (omega arith)
 
-assign_left : (n : NameText) (place : Place) (ts : List Token) → Left 1 (suc (length ts)) (bind (the_expression ts) (λ e r. good (assign n place e) r))
+assign_left : (n : NameText) (place : Place) (ts : List Token) → Left 1 (suc (length ts)) (outcome_bind (the_expression ts) (λ e r. good (assign n place e) r))
 assign_left n place ts =
     next_left 1 (length ts) _ _ (the_expression ts) _ (expression_left ts) λ x r0 l0.
     (omega arith)
 
-call_left : (n : NameText) (place : Place) (ts : List Token) → Left 1 (suc (length ts)) (bind (the_arguments ts) (λ l r. good (call n place l) r))
+call_left : (n : NameText) (place : Place) (ts : List Token) → Left 1 (suc (length ts)) (outcome_bind (the_arguments ts) (λ l r. good (call n place l) r))
 call_left n place ts =
     next_left 1 (length ts) _ _ (the_arguments ts) _ (arguments_left ts) λ l r0 l0.
     (omega arith)

@@ -5,7 +5,7 @@ use Rattle.dh_lexer.specs.declared.tokens.TokenKind.TheVariants as kind
 use Rattle.dh_tree.specs.TextNumbers.{Reduces, HasTextNumbers, FormHasTextNumbers, OtherHasTextNumbers, GroupsHaveTextNumbers, PartHasTextNumbers}
 use Rattle.dh_parser.specs.Grammar.{NameText, TypeText, ValueText, ReducerText, adds, subtracts, multiplies, SimpleText, let_typed, let_value, view, assign, store, reduce, call, HeadText, BlockText, block, PartsText, last_part, part_then, PartText, end_of_part, last_simple, simple_then, compound_then, semicolon_then, CompoundText, block_alone, if_alone, while_loop, for_loop, IfText, if_else, ElseText, no_else, else_block, else_if, CombineText, no_combine, some_combine}
 use Rattle.dh_parser.specs.Spelling.{put, spell, spell_simple, spell_declared, spell_head, spell_block, spell_parts, spell_part, spell_compound, spell_if, spell_else, spell_combine}
-use Rattle.dh_parser.specs.TreesOfTexts.{is_memory_type, let_of, reducer_op, simple_form, count_block, count_part, count_compound, block_of, parts_of, part_of, compound_of, if_of, else_of, combine_of}
+use Rattle.dh_parser.specs.TreesOfTexts.{is_memory_type, let_of, reducer_op, simple_form, count_block, count_part, count_compound, block_of_text, parts_of, part_of, compound_of, if_of, else_of, combine_of}
 use Rattle.dh_parser.proofs.Fronts.{front_of, expression_front, simple_front, declared_front, head_front, block_front, part_front, compound_front}
 use Rattle.dh_parser.proofs.TextNames.{AreSound, behind}
 
@@ -32,7 +32,7 @@ head_bounded : (head : HeadText) (x : List Token) → AreSound (spell_head head 
 head_bounded head x h = (behind (front_of spell_declared declared_front head.declared) _ h.1.1.1.1).1.1.1.0
 
 mutual
-  block_bounded : (id : ℕ) (b : BlockText) (x : List Token) → AreSound (spell_block b x) → HasTextNumbers (block_of id b)
+  block_bounded : (id : ℕ) (b : BlockText) (x : List Token) → AreSound (spell_block b x) → HasTextNumbers (block_of_text id b)
   block_bounded id (block opener parts closer) x h = parts_bounded (suc id) parts (put kind.CloseBrace closer x) h.1
 
   pub parts_bounded : (id : ℕ) (ps : PartsText) (x : List Token) → AreSound (spell_parts ps x) → GroupsHaveTextNumbers (parts_of id ps)

@@ -7,7 +7,7 @@ use Rattle.dh_tree.specs.Memories.{Memory, locals, form_locals, other_locals, gr
 use Rattle.dh_tree.specs.Names.{IsName}
 use Rattle.dh_parser.specs.Grammar.{NameText, TypeText, ValueText, SimpleText, let_typed, let_value, view, assign, store, reduce, call, BlockText, block, PartsText, last_part, part_then, PartText, end_of_part, last_simple, simple_then, compound_then, semicolon_then, CompoundText, block_alone, if_alone, while_loop, for_loop, IfText, if_else, ElseText, no_else, else_block, else_if, CombineText, no_combine, some_combine}
 use Rattle.dh_parser.specs.Spelling.{put, spell, spell_simple, spell_head, spell_block, spell_parts, spell_part, spell_compound, spell_if, spell_else, spell_combine}
-use Rattle.dh_parser.specs.TreesOfTexts.{is_memory_type, let_of, simple_form, count_block, count_part, count_compound, block_of, parts_of, part_of, compound_of, if_of, else_of, combine_of}
+use Rattle.dh_parser.specs.TreesOfTexts.{is_memory_type, let_of, simple_form, count_block, count_part, count_compound, block_of_text, parts_of, part_of, compound_of, if_of, else_of, combine_of}
 use Rattle.dh_parser.proofs.Fronts.{front_of, expression_front, simple_front, head_front, block_front, part_front, compound_front}
 use Rattle.dh_parser.proofs.TextNames.{AreSound, behind}
 
@@ -32,7 +32,7 @@ simple_named (reduce n r sign e) x h = tt
 simple_named (call n opener arguments) x h = tt
 
 mutual
-  pub block_named : (id : ℕ) (b : BlockText) (x : List Token) → AreSound (spell_block b x) → AreNamed (locals (block_of id b))
+  pub block_named : (id : ℕ) (b : BlockText) (x : List Token) → AreSound (spell_block b x) → AreNamed (locals (block_of_text id b))
   block_named id (block opener parts closer) x h = parts_named (suc id) parts (put kind.CloseBrace closer x) h.1
 
   pub parts_named : (id : ℕ) (ps : PartsText) (x : List Token) → AreSound (spell_parts ps x) → AreNamed (groups_locals (parts_of id ps))
@@ -61,14 +61,14 @@ mutual
   compound_named id (while_loop word opener e closer b) x h = block_named (suc id) b x (behind (front_of spell expression_front e) _ h.1.1).1
   compound_named id (for_loop head b combined) x h =
       let after = behind (front_of spell_head head_front head) _ h in
-      both_named (locals (block_of (suc id) b)) (other_locals (combine_of (suc (id + count_block b)) combined))
+      both_named (locals (block_of_text (suc id) b)) (other_locals (combine_of (suc (id + count_block b)) combined))
       (block_named (suc id) b (spell_combine combined x) after)
       (combine_named (suc (id + count_block b)) combined x (behind (front_of spell_block block_front b) _ after))
 
   if_named : (id : ℕ) (i : IfText) (x : List Token) → AreSound (spell_if i x) → AreNamed (locals (if_of id i))
   if_named id (if_else word opener e closer b other) x h =
       let after = (behind (front_of spell expression_front e) _ h.1.1).1 in
-      both_named (locals (block_of (suc id) b)) (other_locals (else_of (suc (id + count_block b)) other))
+      both_named (locals (block_of_text (suc id) b)) (other_locals (else_of (suc (id + count_block b)) other))
       (block_named (suc id) b (spell_else other x) after)
       (else_named (suc (id + count_block b)) other x (behind (front_of spell_block block_front b) _ after))
 

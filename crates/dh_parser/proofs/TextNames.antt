@@ -10,7 +10,7 @@ use Rattle.dh_tree.specs.NameCounts.{declared_in, declared_in_form, declared_in_
 use Rattle.dh_tree.specs.Written.{IsOneUnless, HaveDimPlaces, IsDeclared}
 use Rattle.dh_parser.specs.Grammar.{NameText, PortsText, no_ports, some_ports, BanksText, no_banks, some_banks, DimsText, no_dims, dim_then, TypeText, ValueText, SimpleText, let_typed, let_value, view, assign, store, reduce, call, HeadText, BlockText, block, PartsText, last_part, part_then, PartText, end_of_part, last_simple, simple_then, compound_then, semicolon_then, CompoundText, block_alone, if_alone, while_loop, for_loop, IfText, if_else, ElseText, no_else, else_block, else_if, CombineText, no_combine, some_combine, MoreParametersText, no_more_parameters, parameter_then, ParametersText, no_parameters, some_parameters, ItemsText, no_items, decl_then, def_then}
 use Rattle.dh_parser.specs.Spelling.{put, put_number, spell_type, spell, spell_value, spell_view, spell_simple, spell_declared, spell_unroll, spell_head, spell_block, spell_parts, spell_part, spell_compound, spell_if, spell_else, spell_combine, spell_more_parameters, spell_parameters, spell_items}
-use Rattle.dh_parser.specs.TreesOfTexts.{ports_of, banks_of, word_of, braces_of, dims_of, places_of, kind_place, is_memory_type, let_of, simple_form, count_block, count_part, count_compound, block_of, parts_of, part_of, compound_of, if_of, else_of, combine_of, formals_of, more_formals, decls_of, functions_of}
+use Rattle.dh_parser.specs.TreesOfTexts.{ports_of_text, banks_of_text, bank_word_place, braces_of, dimensions_of_text, dimension_places_of_text, kind_place, is_memory_type, let_of, simple_form, count_block, count_part, count_compound, block_of_text, parts_of, part_of, compound_of, if_of, else_of, combine_of, formals_of, more_formals, decls_of, functions_of}
 use Rattle.dh_parser.proofs.Fronts.{Front, front_of, type_front, expression_front, value_front, view_front, simple_front, declared_front, unroll_front, parameters_front, block_front}
 
 -- the tokens of a text are no fewer than those that follow it
@@ -34,15 +34,15 @@ pub behind : {s : List Token → List Token} → Front s → (x : List Token) �
 behind f x h = cut_off f.tokens x (subst AreSound (f.stands x) h)
 
 -- what a type does not write is 1
-one_port : (start : Place) (ports : PortsText) → IsOneUnless (braces_of ports) (ports_of start ports).value
+one_port : (start : Place) (ports : PortsText) → IsOneUnless (braces_of ports) (ports_of_text start ports).value
 one_port start no_ports = refl
 one_port start (some_ports opener ports closer) = tt
 
-one_bank : (size : Place) (banks : BanksText) → IsOneUnless (word_of banks) (banks_of size banks).value
+one_bank : (size : Place) (banks : BanksText) → IsOneUnless (bank_word_place banks) (banks_of_text size banks).value
 one_bank size no_banks = refl
 one_bank size (some_banks word banks) = tt
 
-are_dims : (ds : DimsText) → HaveDimPlaces (dims_of ds) (places_of ds)
+are_dims : (ds : DimsText) → HaveDimPlaces (dimensions_of_text ds) (dimension_places_of_text ds)
 are_dims no_dims = tt
 are_dims (dim_then opener size banks closer more) = (one_bank size.place banks, are_dims more)
 
@@ -83,7 +83,7 @@ head_names h x =
 
 -- the names of commands have tokens of their own
 mutual
-  block_names : (id : ℕ) (b : BlockText) (x : List Token) → declared_in (block_of id b) + length x ≤ length (spell_block b x)
+  block_names : (id : ℕ) (b : BlockText) (x : List Token) → declared_in (block_of_text id b) + length x ≤ length (spell_block b x)
   block_names id (block opener parts closer) x = let f = parts_names (suc id) parts (put kind.CloseBrace closer x) in omega (arith, f)
 
   pub parts_names : (id : ℕ) (ps : PartsText) (x : List Token) → declared_in_groups (parts_of id ps) + length x ≤ length (spell_parts ps x)

@@ -3,7 +3,7 @@ use Rattle.std.proofs.Common.{◌≡◌, ℕ, suc, ◌+◌, Bool, true, false, r
 use Rattle.dh_tree.specs.Numbers.{commands_in, commands_inside, commands_in_other, commands_in_groups, commands_in_part, IsNumbered, IsNumberedInside, IsNumberedOther, AreNumberedGroups, AreNumbered}
 use Rattle.dh_tree.specs.PlainTrees.{MaybeAction}
 use Rattle.dh_parser.specs.Grammar.{NameText, TypeText, ValueText, SimpleText, let_typed, let_value, view, assign, store, reduce, call, BlockText, block, PartsText, last_part, part_then, PartText, end_of_part, last_simple, simple_then, compound_then, semicolon_then, CompoundText, block_alone, if_alone, while_loop, for_loop, IfText, if_else, ElseText, no_else, else_block, else_if, CombineText, no_combine, some_combine}
-use Rattle.dh_parser.specs.TreesOfTexts.{is_memory_type, let_of, simple_form, count_block, count_parts, count_part, count_compound, count_if, count_else, count_combine, block_of, parts_of, part_of, compound_of, if_of, else_of, combine_of}
+use Rattle.dh_parser.specs.TreesOfTexts.{is_memory_type, let_of, simple_form, count_block, count_parts, count_part, count_compound, count_if, count_else, count_combine, block_of_text, parts_of, part_of, compound_of, if_of, else_of, combine_of}
 
 -- simple commands hold no other
 let_holds_none : (b : Bool) (n : NameText) (t : TypeText) (v : ValueText) → commands_inside (let_of b n t v) ≡ 0
@@ -34,7 +34,7 @@ inside k (call n opener arguments) = tt
 
 -- the commands of a text are as many as the parser counts
 mutual
-  block_counted : (id : ℕ) (b : BlockText) → commands_in (block_of id b) ≡ count_block b
+  block_counted : (id : ℕ) (b : BlockText) → commands_in (block_of_text id b) ≡ count_block b
   block_counted id (block opener parts closer) = ap suc (parts_counted (suc id) parts)
 
   parts_counted : (id : ℕ) (ps : PartsText) → commands_in_groups (parts_of id ps) ≡ count_parts ps
@@ -73,7 +73,7 @@ again : (id n : ℕ) (m : MaybeAction) → IsNumberedOther (suc (id + n)) m → 
 again id n m h = let e : suc (id + n) ≡ suc id + n = omega arith in subst (λ (k : ℕ). IsNumberedOther k m) e h
 
 mutual
-  pub block_numbered : (id : ℕ) (b : BlockText) → IsNumbered id (block_of id b)
+  pub block_numbered : (id : ℕ) (b : BlockText) → IsNumbered id (block_of_text id b)
   block_numbered id (block opener parts closer) = (refl, parts_numbered (suc id) parts)
 
   pub parts_numbered : (id : ℕ) (ps : PartsText) → AreNumberedGroups id (parts_of id ps)

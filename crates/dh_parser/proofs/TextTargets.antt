@@ -2,9 +2,9 @@
 use Rattle.std.proofs.Common.{ℕ, suc, ◌+◌, Bool, true, false}
 use Rattle.dh_tree.specs.Targets.{IsAccess, HasTargets, FormHasTargets, OtherHasTargets, GroupsHaveTargets, PartHasTargets}
 use Rattle.dh_parser.specs.Grammar.{NameText, TypeText, ValueText, AccessText, element, physical, SimpleText, let_typed, let_value, view, assign, store, reduce, call, BlockText, block, PartsText, last_part, part_then, PartText, end_of_part, last_simple, simple_then, compound_then, semicolon_then, CompoundText, block_alone, if_alone, while_loop, for_loop, IfText, if_else, ElseText, no_else, else_block, else_if, CombineText, no_combine, some_combine}
-use Rattle.dh_parser.specs.TreesOfTexts.{access_of, is_memory_type, let_of, simple_form, count_block, count_part, count_compound, block_of, parts_of, part_of, compound_of, if_of, else_of, combine_of}
+use Rattle.dh_parser.specs.TreesOfTexts.{access_of_text, is_memory_type, let_of, simple_form, count_block, count_part, count_compound, block_of_text, parts_of, part_of, compound_of, if_of, else_of, combine_of}
 
-access_accesses : (a : AccessText) → IsAccess (access_of a)
+access_accesses : (a : AccessText) → IsAccess (access_of_text a)
 access_accesses (element n i more) = tt
 access_accesses (physical n opener bank closer i) = tt
 
@@ -22,7 +22,7 @@ simple_targets (reduce n r sign e) = tt
 simple_targets (call n opener arguments) = tt
 
 mutual
-  block_targets : (id : ℕ) (b : BlockText) → HasTargets (block_of id b)
+  block_targets : (id : ℕ) (b : BlockText) → HasTargets (block_of_text id b)
   block_targets id (block opener parts closer) = parts_targets (suc id) parts
 
   pub parts_targets : (id : ℕ) (ps : PartsText) → GroupsHaveTargets (parts_of id ps)

@@ -4,17 +4,17 @@ use Rattle.std.specs.List.{AllByRecursion}
 use Rattle.dh_value.specs.Words.{IsKind}
 use Rattle.dh_tree.specs.Widths.{IsSized, AreSized, AreAllSized, MaybeSized, PlanSized, ActionSized, FormSized, OtherSized, ActionsSized, GroupsSized, DefinedSized, HasWidths}
 use Rattle.dh_tree.specs.PlainTrees.{Declared, Formal, Suffixed}
-use Rattle.dh_parser.specs.Allowed.{level, KindFits, Fits, AccessFits, IndexFits, IndicesFit, MoreArgumentsFit, ArgumentsFit, SuffixFits, OffsetFits, AllFit, ViewFits, ValueFits, SimpleFits, DeclaredFits, BlockFits, PartsFit, PartFits, CompoundFits, IfFits, ElseFits, CombineFits, MoreParametersFit, ParametersFit, ItemsFit, ProgramFits}
+use Rattle.dh_parser.specs.Allowed.{level, KindFits, ExpressionFits, AccessFits, IndexFits, IndicesFit, MoreArgumentsFit, ArgumentsFit, SuffixFits, OffsetFits, AllFit, ViewFits, ValueFits, SimpleFits, DeclaredFits, BlockFits, AllPartsFit, PartFits, CompoundFits, IfFits, ElseFits, CombineFits, MoreParametersFit, ParametersFit, ItemsFit, ProgramFits}
 use Rattle.dh_parser.specs.Grammar.{NameText, KindText, bool_kind, bit_kind, ubit_kind, TypeText, ExprText, literal, negative, truth, variable, access, bracket, cast, binary, AccessText, element, physical, IndexText, index, MoreIndicesText, no_indices, index_then, MoreArgumentsText, no_more_arguments, argument_then, ArgumentsText, no_arguments, some_arguments, SuffixText, OffsetText, ViewText, shrink, split, suffix, shift, ValueText, no_value, some_value, SimpleText, let_typed, let_value, view, assign, store, reduce, call, DeclaredText, no_declared, some_declared, BlockText, block, PartsText, last_part, part_then, PartText, end_of_part, last_simple, simple_then, compound_then, semicolon_then, CompoundText, block_alone, if_alone, while_loop, for_loop, IfText, if_else, ElseText, no_else, else_block, else_if, CombineText, no_combine, some_combine, MoreParametersText, no_more_parameters, parameter_then, ParametersText, no_parameters, some_parameters, ItemsText, no_items, decl_then, def_then, ProgramText}
-use Rattle.dh_parser.specs.TreesOfTexts.{kind_of, is_memory_type, term_of, access_of, index_of, indices_of, more_arguments_of, arguments_of, suffix_of, view_of, value_of, let_of, simple_form, declared_of, count_block, count_part, count_compound, count_items, block_of, parts_of, part_of, compound_of, if_of, else_of, combine_of, formals_of, more_formals, decls_of, functions_of, program_of}
+use Rattle.dh_parser.specs.TreesOfTexts.{kind_of_text, is_memory_type, term_of, access_of_text, index_of, indices_of, more_arguments_of, arguments_of, suffix_of, view_of_text, value_of_text, let_of, simple_form, declared_kind_of_text, count_block, count_part, count_compound, count_items, block_of_text, parts_of, part_of, compound_of, if_of, else_of, combine_of, formals_of, more_formals, decls_of, functions_of, program_of}
 
-kind_sized : (k : KindText) → KindFits k → IsKind (kind_of k)
+kind_sized : (k : KindText) → KindFits k → IsKind (kind_of_text k)
 kind_sized (bool_kind word) h = (omega arith, omega arith)
 kind_sized (bit_kind word less width greater) h = h
 kind_sized (ubit_kind word less width greater) h = h
 
 mutual
-  expression_sized : (k : ℕ) (e : ExprText) → Fits k e → AreSized (term_of e)
+  expression_sized : (k : ℕ) (e : ExprText) → ExpressionFits k e → AreSized (term_of e)
   expression_sized k (literal n) h = tt
   expression_sized k (negative minus n) h = tt
   expression_sized k (truth holds word) h = tt
@@ -24,7 +24,7 @@ mutual
   expression_sized k (cast opener e word kd closer) h = (kind_sized kd h.1, expression_sized 0 e h.0)
   expression_sized k (binary o sign l r) h = (expression_sized (level o) l h.1.0, expression_sized (suc (level o)) r h.1.1)
 
-  access_sized : (a : AccessText) → AccessFits a → AreSized (access_of a)
+  access_sized : (a : AccessText) → AccessFits a → AreSized (access_of_text a)
   access_sized (element n i more) h = (index_sized i h.0, indices_sized more h.1)
   access_sized (physical n opener bank closer i) h = index_sized i h
 
@@ -51,13 +51,13 @@ offsets_sized : (os : List OffsetText) → AllFit OffsetFits os → AllByRecursi
 offsets_sized [] h = tt
 offsets_sized (o ∷ more) h = (expression_sized 0 o.offset h.0, offsets_sized more h.1)
 
-view_sized : (v : ViewText) → ViewFits v → PlanSized (view_of v)
+view_sized : (v : ViewText) → ViewFits v → PlanSized (view_of_text v)
 view_sized (shrink word parent f more) h = tt
 view_sized (split word parent f more) h = tt
 view_sized (suffix word parent s more) h = suffixes_sized (s ∷ more) h
 view_sized (shift word parent o more) h = offsets_sized (o ∷ more) h
 
-value_sized : (v : ValueText) → ValueFits v → MaybeSized (value_of v)
+value_sized : (v : ValueText) → ValueFits v → MaybeSized (value_of_text v)
 value_sized no_value h = tt
 value_sized (some_value equal e) h = expression_sized 0 e h
 
@@ -74,15 +74,15 @@ simple_sized (store a becomes e) h = (access_sized a h.0, expression_sized 0 e h
 simple_sized (reduce n r sign e) h = expression_sized 0 e h
 simple_sized (call n opener arguments) h = arguments_sized arguments h
 
-declared_sized : (d : DeclaredText) → DeclaredFits d → IsSized (declared_of d)
+declared_sized : (d : DeclaredText) → DeclaredFits d → IsSized (declared_kind_of_text d)
 declared_sized no_declared h = tt
 declared_sized (some_declared colon k) h = kind_sized k h
 
 mutual
-  block_sized : (id : ℕ) (b : BlockText) → BlockFits b → ActionSized (block_of id b)
+  block_sized : (id : ℕ) (b : BlockText) → BlockFits b → ActionSized (block_of_text id b)
   block_sized id (block opener parts closer) h = parts_sized (suc id) parts h
 
-  parts_sized : (id : ℕ) (ps : PartsText) → PartsFit ps → GroupsSized (parts_of id ps)
+  parts_sized : (id : ℕ) (ps : PartsText) → AllPartsFit ps → GroupsSized (parts_of id ps)
   parts_sized id (last_part p) h = (part_sized id p h, tt)
   parts_sized id (part_then p dashes more) h = (part_sized id p h.0, parts_sized (id + count_part p) more h.1)
 

@@ -25,32 +25,32 @@ level op.Add = 8
 level op.Sub = 8
 level op.Mul = 9
 
-abbrev pub IsWidth : NumberText → Type 0
-IsWidth n = (1 ≤ n.value) × (n.value ≤ 64)
+abbrev pub WidthFits : NumberText → Type 0
+WidthFits n = (1 ≤ n.value) × (n.value ≤ 64)
 
 abbrev pub KindFits : KindText → Type 0
 KindFits (bool_kind word) = Unit {0}
-KindFits (bit_kind word less width greater) = IsWidth width
-KindFits (ubit_kind word less width greater) = IsWidth width
+KindFits (bit_kind word less width greater) = WidthFits width
+KindFits (ubit_kind word less width greater) = WidthFits width
 
 abbrev mutual
   -- an expression of operators of at least this level
-  pub Fits : ℕ → ExprText → Type 0
-  Fits k (literal n) = Unit {0}
-  Fits k (negative minus n) = Unit {0}
-  Fits k (truth holds word) = Unit {0}
-  Fits k (variable n) = Unit {0}
-  Fits k (access a) = AccessFits a
-  Fits k (bracket opener e closer) = Fits 0 e
-  Fits k (cast opener e word kd closer) = Fits 0 e × KindFits kd
-  Fits k (binary o sign l r) = (k ≤ level o) × (Fits (level o) l × Fits (suc (level o)) r)
+  pub ExpressionFits : ℕ → ExprText → Type 0
+  ExpressionFits k (literal n) = Unit {0}
+  ExpressionFits k (negative minus n) = Unit {0}
+  ExpressionFits k (truth holds word) = Unit {0}
+  ExpressionFits k (variable n) = Unit {0}
+  ExpressionFits k (access a) = AccessFits a
+  ExpressionFits k (bracket opener e closer) = ExpressionFits 0 e
+  ExpressionFits k (cast opener e word kd closer) = ExpressionFits 0 e × KindFits kd
+  ExpressionFits k (binary o sign l r) = (k ≤ level o) × (ExpressionFits (level o) l × ExpressionFits (suc (level o)) r)
 
   pub AccessFits : AccessText → Type 0
   AccessFits (element n i more) = IndexFits i × IndicesFit more
   AccessFits (physical n opener bank closer i) = IndexFits i
 
   pub IndexFits : IndexText → Type 0
-  IndexFits (index opener e closer) = Fits 0 e
+  IndexFits (index opener e closer) = ExpressionFits 0 e
 
   pub IndicesFit : MoreIndicesText → Type 0
   IndicesFit no_indices = Unit {0}
@@ -58,18 +58,18 @@ abbrev mutual
 
 abbrev pub MoreArgumentsFit : MoreArgumentsText → Type 0
 MoreArgumentsFit (no_more_arguments closer) = Unit {0}
-MoreArgumentsFit (argument_then comma e more) = Fits 0 e × MoreArgumentsFit more
+MoreArgumentsFit (argument_then comma e more) = ExpressionFits 0 e × MoreArgumentsFit more
 
 abbrev pub ArgumentsFit : ArgumentsText → Type 0
 ArgumentsFit (no_arguments closer) = Unit {0}
-ArgumentsFit (some_arguments e more) = Fits 0 e × MoreArgumentsFit more
+ArgumentsFit (some_arguments e more) = ExpressionFits 0 e × MoreArgumentsFit more
 
 -- an operand alone: no operator has level 10
 abbrev pub SuffixFits : SuffixText → Type 0
-SuffixFits s = Fits 10 s.offset
+SuffixFits s = ExpressionFits 10 s.offset
 
 abbrev pub OffsetFits : OffsetText → Type 0
-OffsetFits o = Fits 0 o.offset
+OffsetFits o = ExpressionFits 0 o.offset
 
 abbrev pub AllFit : {A : Type 0} → (A → Type 0) → List A → Type 0
 AllFit P [] = Unit {0}
@@ -83,15 +83,15 @@ ViewFits (shift word parent o more) = OffsetFits o × AllFit OffsetFits more
 
 abbrev pub ValueFits : ValueText → Type 0
 ValueFits no_value = Unit {0}
-ValueFits (some_value equal e) = Fits 0 e
+ValueFits (some_value equal e) = ExpressionFits 0 e
 
 abbrev pub SimpleFits : SimpleText → Type 0
 SimpleFits (let_typed word n colon t value) = KindFits t.kind × ValueFits value
-SimpleFits (let_value word n equal e) = Fits 0 e
+SimpleFits (let_value word n equal e) = ExpressionFits 0 e
 SimpleFits (view word n equal v) = ViewFits v
-SimpleFits (assign n becomes e) = Fits 0 e
-SimpleFits (store a becomes e) = AccessFits a × Fits 0 e
-SimpleFits (reduce n r sign e) = Fits 0 e
+SimpleFits (assign n becomes e) = ExpressionFits 0 e
+SimpleFits (store a becomes e) = AccessFits a × ExpressionFits 0 e
+SimpleFits (reduce n r sign e) = ExpressionFits 0 e
 SimpleFits (call n opener arguments) = ArgumentsFit arguments
 
 abbrev pub DeclaredFits : DeclaredText → Type 0
@@ -100,11 +100,11 @@ DeclaredFits (some_declared colon k) = KindFits k
 
 abbrev mutual
   pub BlockFits : BlockText → Type 0
-  BlockFits (block opener parts closer) = PartsFit parts
+  BlockFits (block opener parts closer) = AllPartsFit parts
 
-  pub PartsFit : PartsText → Type 0
-  PartsFit (last_part p) = PartFits p
-  PartsFit (part_then p dashes more) = PartFits p × PartsFit more
+  pub AllPartsFit : PartsText → Type 0
+  AllPartsFit (last_part p) = PartFits p
+  AllPartsFit (part_then p dashes more) = PartFits p × AllPartsFit more
 
   pub PartFits : PartText → Type 0
   PartFits end_of_part = Unit {0}
@@ -116,11 +116,11 @@ abbrev mutual
   pub CompoundFits : CompoundText → Type 0
   CompoundFits (block_alone b) = BlockFits b
   CompoundFits (if_alone i) = IfFits i
-  CompoundFits (while_loop word opener e closer b) = Fits 0 e × BlockFits b
+  CompoundFits (while_loop word opener e closer b) = ExpressionFits 0 e × BlockFits b
   CompoundFits (for_loop h b combine) = DeclaredFits h.declared × (BlockFits b × CombineFits combine)
 
   pub IfFits : IfText → Type 0
-  IfFits (if_else word opener e closer b other) = Fits 0 e × (BlockFits b × ElseFits other)
+  IfFits (if_else word opener e closer b other) = ExpressionFits 0 e × (BlockFits b × ElseFits other)
 
   pub ElseFits : ElseText → Type 0
   ElseFits no_else = Unit {0}
@@ -145,4 +145,4 @@ ItemsFit (decl_then word n colon t semicolon more) = KindFits t.kind × ItemsFit
 ItemsFit (def_then word n opener ps equal b more) = ParametersFit ps × (BlockFits b × ItemsFit more)
 
 abbrev pub ProgramFits : ProgramText → Type 0
-ProgramFits p = ItemsFit p.items × PartsFit p.parts
+ProgramFits p = ItemsFit p.items × AllPartsFit p.parts

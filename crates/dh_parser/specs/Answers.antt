@@ -42,8 +42,8 @@ use Rattle.dh_parser.specs.declared.parsing.views.Factors.{Factors}
 use Rattle.dh_parser.specs.declared.parsing.views.Suffixes.{Suffixes}
 use Rattle.dh_parser.specs.Grammar.{NameText, NumberText, KindText, ItemsText, FactorText, SuffixText, OffsetText, ViewText, ValueText, SimpleText, BlockText, PartsText, PartText, CompoundText, IfText, ElseText, CombineText, ExprText, AccessText, IndexText, MoreIndicesText, ArgumentsText, PortsText, no_ports, some_ports, BanksText, DimsText, TypeText, DeclaredText, UnrollText, HeadText, ParameterText, ParametersText, ProgramText}
 use Rattle.dh_parser.specs.Marks.{comes}
-use Rattle.dh_parser.specs.TreesOfTexts.{placed_of, ref_of, name_text, word_of, kind_of, kind_place, banks_of, dims_of, places_of, shape_of, shape_places_of, is_memory_type, declared_of, factor_of, joined_terms, term_of, access_of, index_of, indices_of, arguments_of, suffix_of, parent_of, view_of, value_of, let_written, simple_form, simple_place, block_of, parts_of, part_of, compound_of, if_of, else_of, combine_of, combine_place_of, if_place, count_block, count_parts, count_part, count_compound, count_if, count_else, count_combine, formal_of, formals_of, decls_of, functions_of, count_items, body_of, program_of}
-use Rattle.dh_parser.specs.Reading.{Outcome, good, bad, the, width_then, Reads, expression, CastText, TestText, parent_and, the_simple, parameter_text, RangeText, sign_text, sign_at, Beginning, begins_simple, begins_compound, begins_semicolon, begins_nothing}
+use Rattle.dh_parser.specs.TreesOfTexts.{placed_of, ref_of, text_of_name, bank_word_place, kind_of_text, kind_place, banks_of_text, dimensions_of_text, dimension_places_of_text, shape_of_text, shape_places_of, is_memory_type, declared_kind_of_text, factor_of, joined_terms, term_of, access_of_text, index_of, indices_of, arguments_of, suffix_of, parent_of_view_text, view_of_text, value_of_text, let_written, simple_form, simple_place, block_of_text, parts_of, part_of, compound_of, if_of, else_of, combine_of, combine_place_of, if_place, count_block, count_parts, count_part, count_compound, count_if, count_else, count_combine, formal_of, formals_of, decls_of, functions_of, count_items, body_of, program_of}
+use Rattle.dh_parser.specs.Reading.{Outcome, good, bad, the, width_then, ExpressionReader, expression, CastText, TestText, parent_and, the_simple, parameter_text, RangeText, sign_text, sign_at, Beginning, begins_simple, begins_compound, begins_semicolon, begins_nothing}
 use Rattle.dh_parser.specs.Parts.{BankText}
 
 abbrev pub AnswersBy : {A B : Type 0} → (B → A → Type 0) → Result B Stop → List Token → Outcome A → Type 0
@@ -53,12 +53,12 @@ AnswersBy same (Err stop.NoMemory) rest o = Unit {0}
 AnswersBy same _ rest o = ⊥
 
 -- what is given, with the tokens to come, answers as the outcome says
-pub record Answers {A B : Type 0} (same : B → A → Type 0) (given : Result B Stop) (rest : List Token) (o : Outcome A) : Type 0 where
+pub record AnswersOutcome {A B : Type 0} (same : B → A → Type 0) (given : Result B Stop) (rest : List Token) (o : Outcome A) : Type 0 where
   pub holds : AnswersBy same given rest o
 
 -- a parser, from where it stood to where it stands, answers as this reader of lists does
 abbrev pub AnswersAs : {A B : Type 0} → (List Token → Outcome A) → (B → A → Type 0) → Result B Stop → Reader → Reader → Type 0
-AnswersAs reads same given old new = Answers same given new.rest.now (reads old.rest.now)
+AnswersAs reads same given old new = AnswersOutcome same given new.rest.now (reads old.rest.now)
 
 -- the same of one that numbers the commands that it reads
 abbrev pub NumbersAs : {A B : Type 0} → (List Token → Outcome A) → (B → A → ℕ → ℕ → Type 0) → Result B Stop → Reader → Reader → Type 0
@@ -88,10 +88,10 @@ Took m true old new = (comes m old ≡ true) × ((p : Place) × (the m old ≡ g
 Took m false old new = (comes m old ≡ false) × (new ≡ old)
 
 -- the place of the first token, where there is one
-abbrev pub StandsAt : Result Place Stop → List Token → Type 0
-StandsAt (Ok p) (t ∷ ts) = p ≡ t.place
-StandsAt (Err stop.Here) [] = Unit {0}
-StandsAt _ _ = ⊥
+abbrev pub IsFirstTokenPlace : Result Place Stop → List Token → Type 0
+IsFirstTokenPlace (Ok p) (t ∷ ts) = p ≡ t.place
+IsFirstTokenPlace (Err stop.Here) [] = Unit {0}
+IsFirstTokenPlace _ _ = ⊥
 
 -- a number where it stands, in the code and beside it
 abbrev pub SameNumber : Numeral → Placed → Type 0
@@ -102,7 +102,7 @@ abbrev pub SameNumeral : Numeral → NumberText → Type 0
 SameNumeral n t = SameNumber n (placed_of t)
 
 abbrev pub SameKind : Kind → KindText → Type 0
-SameKind kind t = kind ≡ kind_of t
+SameKind kind t = kind ≡ kind_of_text t
 
 -- the rest of a kind after its word, at whatever place the word stood: a width, of which `kind` makes the kind
 abbrev pub AnswersWidth : (Place → Place → NumberText → Place → KindText) → (ℕ → Kind) → Result ℕ Stop → Reader → Reader → Type 0
@@ -124,40 +124,40 @@ SamePorts _ _ = ⊥
 
 -- the number of banks after a size that stands here, and the place of its word, where it is written
 abbrev pub SameBanks : Place → WrittenBanks → BanksText → Type 0
-SameBanks size b t = (b.word ≡ word_of t) × SameNumber b.number (banks_of size t)
+SameBanks size b t = (b.word ≡ bank_word_place t) × SameNumber b.number (banks_of_text size t)
 
 -- a dimension, as what it is put in front of others
 abbrev pub SameDim : WrittenDim → (DimsText → DimsText) → Type 0
-SameDim d put = (more : DimsText) → (dims_of (put more) ≡ d.dim ∷ dims_of more) × (places_of (put more) ≡ d.places ∷ places_of more)
+SameDim d put = (more : DimsText) → (dimensions_of_text (put more) ≡ d.dim ∷ dimensions_of_text more) × (dimension_places_of_text (put more) ≡ d.places ∷ dimension_places_of_text more)
 
 -- dimensions, and the places of their parts
 abbrev pub SameDims : List Dim × List DimPlaces → DimsText → Type 0
-SameDims d t = (d.0 ≡ dims_of t) × (d.1 ≡ places_of t)
+SameDims d t = (d.0 ≡ dimensions_of_text t) × (d.1 ≡ dimension_places_of_text t)
 
 pub record SameType (w : WrittenType) (t : TypeText) : Type 0 where
-  pub shape : w.shape ≡ shape_of t
+  pub shape : w.shape ≡ shape_of_text t
   pub places : w.places ≡ shape_places_of t
   pub memory : w.is_memory ≡ is_memory_type t.ports t.dims
 
 -- a type is that of any text that has these parts and begins here
 abbrev pub TypeOfParts : Kind → Place → Option WrittenPorts → List Dim → List DimPlaces → WrittenType → Type 0
 TypeOfParts kind place ports dims places made =
-    (t : TypeText) → kind ≡ kind_of t.kind → kind_place t.kind ≡ place → SamePorts ports t.ports → SameDims (dims, places) t.dims → SameType made t
+    (t : TypeText) → kind ≡ kind_of_text t.kind → kind_place t.kind ≡ place → SamePorts ports t.ports → SameDims (dims, places) t.dims → SameType made t
 
 -- the kind of an iterator, where it is written
 abbrev pub SameDeclared : Option Kind → DeclaredText → Type 0
-SameDeclared kind t = kind ≡ declared_of t
+SameDeclared kind t = kind ≡ declared_kind_of_text t
 
 -- what an iterator goes over
 pub record SameRange (w : WrittenRange) (t : RangeText) : Type 0 where
-  pub declared : w.declared ≡ declared_of t.declared
+  pub declared : w.declared ≡ declared_kind_of_text t.declared
   pub low : SameNumber w.low (placed_of t.low)
   pub high : SameNumber w.high (placed_of t.high)
 
 pub record SameHead (h : LoopHead) (t : HeadText) : Type 0 where
   pub place : h.place ≡ t.word
   pub iterator : h.iterator ≡ ref_of t.iterator
-  pub declared : h.declared ≡ declared_of t.declared
+  pub declared : h.declared ≡ declared_kind_of_text t.declared
   pub low : SameNumber h.low (placed_of t.low)
   pub high : SameNumber h.high (placed_of t.high)
   pub factor : SameUnrolled h.factor h.unroll (factor_of t.word t.unroll)
@@ -168,18 +168,18 @@ TookOperator k None old new = (sign_at k old ≡ None) × (new ≡ old)
 TookOperator k (Some op) old new = (p : Place) × (sign_at k old ≡ Some (sign_text op p new))
 
 -- what is made, where memory suffices
-abbrev pub Made : {B : Type 0} → (B → Type 0) → Result B Stop → Type 0
-Made P (Ok v) = P v
-Made P (Err stop.NoMemory) = Unit {0}
-Made P (Err stop.Here) = ⊥
+abbrev pub MadeIfMemorySuffices : {B : Type 0} → (B → Type 0) → Result B Stop → Type 0
+MadeIfMemorySuffices P (Ok v) = P v
+MadeIfMemorySuffices P (Err stop.NoMemory) = Unit {0}
+MadeIfMemorySuffices P (Err stop.Here) = ⊥
 
-abbrev pub MadeBy : {A B : Type 0} → (A → B → Type 0) → Result A Stop → Result B Stop → Type 0
-MadeBy P (Ok v) made = Made (P v) made
-MadeBy P (Err e) made = made ≡ Err e
+abbrev pub MadeFromRead : {A B : Type 0} → (A → B → Type 0) → Result A Stop → Result B Stop → Type 0
+MadeFromRead P (Ok v) made = MadeIfMemorySuffices (P v) made
+MadeFromRead P (Err e) made = made ≡ Err e
 
 -- what is made of what was read; where nothing was read, the refusal of that
 pub record MadeOf {A B : Type 0} (P : A → B → Type 0) (read : Result A Stop) (made : Result B Stop) : Type 0 where
-  pub holds : MadeBy P read made
+  pub holds : MadeFromRead P read made
 
 -- an expression stands for the tree of its text
 abbrev pub SameTerm : Expr → ExprText → Type 0
@@ -190,15 +190,15 @@ abbrev pub AnswersTerm : (List Token → Outcome ExprText) → Result Expr Stop 
 AnswersTerm reads given old new = AnswersAs reads SameTerm given old new
 
 -- a parser that goes on after this name answers as this reader of lists does, which reads what stands inside
-abbrev pub AnswersAfterName : {A B : Type 0} → (Reads → NameText → List Token → Outcome A) → (B → A → Type 0) → Ref → Result B Stop → Reader → Reader → Type 0
-AnswersAfterName reads same name given old new = AnswersAs (reads expression (name_text name)) same given old new
+abbrev pub AnswersAfterName : {A B : Type 0} → (ExpressionReader → NameText → List Token → Outcome A) → (B → A → Type 0) → Ref → Result B Stop → Reader → Reader → Type 0
+AnswersAfterName reads same name given old new = AnswersAs (reads expression (text_of_name name)) same given old new
 
 -- two expressions joined by an operator
 abbrev pub joined_expressions : Op → Expr → Expr → Term
 joined_expressions op left right = joined_terms op (term_seen left) (term_seen right)
 
 abbrev pub SameAccess : Expr → AccessText → Type 0
-SameAccess e a = term_seen e ≡ access_of a
+SameAccess e a = term_seen e ≡ access_of_text a
 
 abbrev pub SameIndex : Expr → IndexText → Type 0
 SameIndex e i = term_seen e ≡ index_of i
@@ -209,7 +209,7 @@ SameCast kind t = SameKind kind t.kind
 
 -- the cast of an expression, behind the `(` at this place
 abbrev pub SameCastOf : Place → Expr → Expr → CastText → Type 0
-SameCastOf opening inner e t = term_seen e ≡ term opening None (converted (term_seen inner) (kind_of t.kind))
+SameCastOf opening inner e t = term_seen e ≡ term opening None (converted (term_seen inner) (kind_of_text t.kind))
 
 -- the number of a bank
 abbrev pub SameBank : Numeral → BankText → Type 0
@@ -224,15 +224,15 @@ abbrev pub element_seen : Ref → Vec Expr Global → Term
 element_seen of indices = term of.place None (accessed of (terms (map term_seen indices.items)))
 
 -- the row of a bank of a memory
-abbrev pub row_seen : Ref → WrittenRow → Term
-row_seen of w = term of.place None (in_bank of w.bank.value w.bank.place (term_seen w.row))
+abbrev pub written_row_seen : Ref → WrittenRow → Term
+written_row_seen of w = term of.place None (in_bank of w.bank.value w.bank.place (term_seen w.row))
 
 abbrev pub SameArguments : Vec Expr Global → ArgumentsText → Type 0
 SameArguments es t = map term_seen es.items ≡ arguments_of t
 
 -- the right side of a `let`, where it is written
 abbrev pub SameValue : Option Expr → ValueText → Type 0
-SameValue value t = option_map term_seen value ≡ value_of t
+SameValue value t = option_map term_seen value ≡ value_of_text t
 
 -- indices, of which there is one at least
 abbrev pub SameIndices : Vec Expr Global → IndexText × MoreIndicesText → Type 0
@@ -268,7 +268,7 @@ SameSuffixRead v s = SameSuffix v.0 v.1 s
 
 -- the parent of a view and how it shows that
 abbrev pub SamePlan : Ref → ViewForm → ViewText → Type 0
-SamePlan parent form v = (parent ≡ parent_of v) × (view_plan form ≡ view_of v)
+SamePlan parent form v = (parent ≡ parent_of_view_text v) × (view_plan form ≡ view_of_text v)
 
 -- a command without blocks, that begins at a place
 abbrev pub SameSimple : Place → CommandForm → SimpleText → Type 0
@@ -276,11 +276,11 @@ SameSimple place form s = (action_form_seen form ≡ simple_form s) × (simple_p
 
 -- a parser answers with the command without blocks that comes next, which begins where the parser stood
 abbrev pub AnswersSimple : Result CommandForm Stop → Reader → Reader → Type 0
-AnswersSimple given old new = (p : Place) → StandsAt (Ok p) old.rest.now → AnswersAs the_simple (SameSimple p) given old new
+AnswersSimple given old new = (p : Place) → IsFirstTokenPlace (Ok p) old.rest.now → AnswersAs the_simple (SameSimple p) given old new
 
 -- a parser that goes on after the name by which a command begins answers as this reader of lists does
 abbrev pub AnswersNamed : (NameText → List Token → Outcome SimpleText) → Ref → Result CommandForm Stop → Reader → Reader → Type 0
-AnswersNamed reads name given old new = AnswersAs (reads (name_text name)) (SameSimple name.place) given old new
+AnswersNamed reads name given old new = AnswersAs (reads (text_of_name name)) (SameSimple name.place) given old new
 
 -- the form of a `let` of this name with this type and right side
 abbrev pub typed_let_seen : Ref → WrittenType → Option Expr → ActionForm
@@ -291,7 +291,7 @@ abbrev pub SameSimpleCommand : Command → SimpleText → ℕ → ℕ → Type 0
 SameSimpleCommand c s old new = (action_seen c ≡ action old (simple_place s) (simple_form s)) × (new ≡ old + 1)
 
 -- a command stands for what its text says, where the commands of the text are numbered from `old` on up to `new`
-pub record Numbered (seen told : Action) (old new count : ℕ) : Type 0 where
+pub record CommandNumbered (seen told : Action) (old new count : ℕ) : Type 0 where
   pub is : seen ≡ told
   pub counted : new ≡ old + count
 
@@ -311,16 +311,16 @@ pub record PartsNumbered (seen told : Groups) (old new count : ℕ) : Type 0 whe
   pub counted : new ≡ old + count
 
 abbrev pub SameBlock : Command → BlockText → ℕ → ℕ → Type 0
-SameBlock c b old new = Numbered (action_seen c) (block_of old b) old new (count_block b)
+SameBlock c b old new = CommandNumbered (action_seen c) (block_of_text old b) old new (count_block b)
 
 abbrev pub SameBoxedBlock : Box Command Global → BlockText → ℕ → ℕ → Type 0
 SameBoxedBlock c b old new = SameBlock c.value b old new
 
 abbrev pub SameCompound : Command → CompoundText → ℕ → ℕ → Type 0
-SameCompound c t old new = Numbered (action_seen c) (compound_of old t) old new (count_compound t)
+SameCompound c t old new = CommandNumbered (action_seen c) (compound_of old t) old new (count_compound t)
 
 abbrev pub SameIf : Command → IfText → ℕ → ℕ → Type 0
-SameIf c i old new = Numbered (action_seen c) (if_of old i) old new (count_if i)
+SameIf c i old new = CommandNumbered (action_seen c) (if_of old i) old new (count_if i)
 
 -- the block of this number, at this place, with these parts
 abbrev pub block_seen : ℕ → Place → Vec (Vec Command Global) Global → Action
@@ -340,7 +340,7 @@ block_around id inner = action id inner.place (blocks (group_then (action_then (
 -- the block that an `if` after `else` stands for
 abbrev pub SameElseIf : Command → IfText → ℕ → ℕ → Type 0
 SameElseIf c i old new =
-    Numbered (action_seen c) (action old (if_place i) (blocks (group_then (action_then (if_of (suc old) i) no_actions) no_groups))) old new (suc (count_if i))
+    CommandNumbered (action_seen c) (action old (if_place i) (blocks (group_then (action_then (if_of (suc old) i) no_actions) no_groups))) old new (suc (count_if i))
 
 -- a block that a command may hold
 abbrev pub boxed_seen : Option (Box Command Global) → Option Action

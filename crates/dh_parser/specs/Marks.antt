@@ -37,35 +37,35 @@ kind_of_mark mark.Star = kind.Star
 kind_of_mark mark.End = kind.End
 
 -- the mark that a token is
-abbrev pub mark_of : TokenKind → Option Mark
-mark_of kind.Let = Some mark.Let
-mark_of kind.By = Some mark.By
-mark_of kind.If = Some mark.If
-mark_of kind.Else = Some mark.Else
-mark_of kind.While = Some mark.While
-mark_of kind.For = Some mark.For
-mark_of kind.Unroll = Some mark.Unroll
-mark_of kind.Combine = Some mark.Combine
-mark_of kind.Bank = Some mark.Bank
-mark_of kind.As = Some mark.As
-mark_of kind.OpenParen = Some mark.OpenParen
-mark_of kind.CloseParen = Some mark.CloseParen
-mark_of kind.OpenBracket = Some mark.OpenBracket
-mark_of kind.CloseBracket = Some mark.CloseBracket
-mark_of kind.OpenBrace = Some mark.OpenBrace
-mark_of kind.CloseBrace = Some mark.CloseBrace
-mark_of kind.Comma = Some mark.Comma
-mark_of kind.Semicolon = Some mark.Semicolon
-mark_of kind.Colon = Some mark.Colon
-mark_of kind.Range = Some mark.Range
-mark_of kind.Dashes = Some mark.Dashes
-mark_of kind.Becomes = Some mark.Becomes
-mark_of kind.Assign = Some mark.Assign
-mark_of kind.Less = Some mark.Less
-mark_of kind.Greater = Some mark.Greater
-mark_of kind.Star = Some mark.Star
-mark_of kind.End = Some mark.End
-mark_of _ = None
+abbrev pub mark_of_token : TokenKind → Option Mark
+mark_of_token kind.Let = Some mark.Let
+mark_of_token kind.By = Some mark.By
+mark_of_token kind.If = Some mark.If
+mark_of_token kind.Else = Some mark.Else
+mark_of_token kind.While = Some mark.While
+mark_of_token kind.For = Some mark.For
+mark_of_token kind.Unroll = Some mark.Unroll
+mark_of_token kind.Combine = Some mark.Combine
+mark_of_token kind.Bank = Some mark.Bank
+mark_of_token kind.As = Some mark.As
+mark_of_token kind.OpenParen = Some mark.OpenParen
+mark_of_token kind.CloseParen = Some mark.CloseParen
+mark_of_token kind.OpenBracket = Some mark.OpenBracket
+mark_of_token kind.CloseBracket = Some mark.CloseBracket
+mark_of_token kind.OpenBrace = Some mark.OpenBrace
+mark_of_token kind.CloseBrace = Some mark.CloseBrace
+mark_of_token kind.Comma = Some mark.Comma
+mark_of_token kind.Semicolon = Some mark.Semicolon
+mark_of_token kind.Colon = Some mark.Colon
+mark_of_token kind.Range = Some mark.Range
+mark_of_token kind.Dashes = Some mark.Dashes
+mark_of_token kind.Becomes = Some mark.Becomes
+mark_of_token kind.Assign = Some mark.Assign
+mark_of_token kind.Less = Some mark.Less
+mark_of_token kind.Greater = Some mark.Greater
+mark_of_token kind.Star = Some mark.Star
+mark_of_token kind.End = Some mark.End
+mark_of_token _ = None
 
 -- a number of each mark, by which marks are told apart
 abbrev pub code : Mark → ℕ
@@ -97,13 +97,13 @@ code mark.Greater = 24
 code mark.Star = 25
 code mark.End = 26
 
-abbrev pub is_same : Option Mark → Mark → Bool
-is_same None m = false
-is_same (Some n) m = code n == code m
+abbrev pub is_same_mark : Option Mark → Mark → Bool
+is_same_mark None m = false
+is_same_mark (Some n) m = code n == code m
 
 -- whether a token is a mark
 abbrev pub is_mark : TokenKind → Mark → Bool
-is_mark k m = is_same (mark_of k) m
+is_mark k m = is_same_mark (mark_of_token k) m
 
 -- whether the mark comes next
 abbrev pub comes : Mark → List Token → Bool

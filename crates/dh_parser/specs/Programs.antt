@@ -63,10 +63,10 @@ IsAnswered (bad rest) = Unit {0}
 IsAnswered deep = ⊥
 
 -- what reading a program comes to is right: what was read has the tokens that were taken
-abbrev pub IsSound : List Token → Outcome ProgramText → Type 0
-IsSound tokens (good p rest) = ProgramFits p × (tokens ≡ spell_program p rest)
-IsSound tokens (bad rest) = Unit {0}
-IsSound tokens deep = Unit {0}
+abbrev pub IsSoundReading : List Token → Outcome ProgramText → Type 0
+IsSoundReading tokens (good p rest) = ProgramFits p × (tokens ≡ spell_program p rest)
+IsSoundReading tokens (bad rest) = Unit {0}
+IsSoundReading tokens deep = Unit {0}
 
 -- what reading a list of tokens that ends with `End` comes to: all of it, or a token that is out of place
 abbrev pub IsPlaced : List Token → Outcome ProgramText → Type 0

@@ -21,10 +21,10 @@ pub data Outcome (A : Type 0) : Type 0 where
   deep : Outcome A
 
 -- reads on after what was read
-abbrev pub bind : {A B : Type 0} → Outcome A → (A → List Token → Outcome B) → Outcome B
-bind (good a rest) go = go a rest
-bind (bad rest) go = bad rest
-bind deep go = deep
+abbrev pub outcome_bind : {A B : Type 0} → Outcome A → (A → List Token → Outcome B) → Outcome B
+outcome_bind (good a rest) go = go a rest
+outcome_bind (bad rest) go = bad rest
+outcome_bind deep go = deep
 
 -- a mark, at its place
 abbrev pub the : Mark → List Token → Outcome Place
@@ -68,9 +68,9 @@ the_width (t ∷ ts) = width_from t.kind t ts
 -- `< width >`, of which `make` makes a kind
 abbrev pub width_then : (Place → NumberText → Place → KindText) → List Token → Outcome KindText
 width_then make ts =
-    bind (the mark.Less ts) λ less r.
-    bind (the_width r) λ width r.
-    bind (the mark.Greater r) λ greater r.
+    outcome_bind (the mark.Less ts) λ less r.
+    outcome_bind (the_width r) λ width r.
+    outcome_bind (the mark.Greater r) λ greater r.
     good (make less width greater) r
 
 abbrev pub kind_from : TokenKind → Token → List Token → Outcome KindText
@@ -86,38 +86,38 @@ the_kind (t ∷ ts) = kind_from t.kind t ts
 abbrev pub the_ports : List Token → Outcome PortsText
 the_ports ts =
     if comes mark.OpenBrace ts
-    then (bind (the mark.OpenBrace ts) λ opener r.
-    bind (the_number r) λ ports r.
-    bind (the mark.CloseBrace r) λ closer r.
+    then (outcome_bind (the mark.OpenBrace ts) λ opener r.
+    outcome_bind (the_number r) λ ports r.
+    outcome_bind (the mark.CloseBrace r) λ closer r.
     good (some_ports opener ports closer) r)
     else good no_ports ts
 
 abbrev pub the_banks : List Token → Outcome BanksText
 the_banks ts =
     if comes mark.Bank ts
-    then (bind (the mark.Bank ts) λ word r.
-    bind (the_number r) λ banks r.
+    then (outcome_bind (the mark.Bank ts) λ word r.
+    outcome_bind (the_number r) λ banks r.
     good (some_banks word banks) r)
     else good no_banks ts
 
 -- a dimension, as what it is put in front of others
 abbrev pub the_dim : List Token → Outcome (DimsText → DimsText)
 the_dim ts =
-    bind (the mark.OpenBracket ts) λ opener r.
-    bind (the_number r) λ size r.
-    bind (the_banks r) λ banks r.
-    bind (the mark.CloseBracket r) λ closer r.
+    outcome_bind (the mark.OpenBracket ts) λ opener r.
+    outcome_bind (the_number r) λ size r.
+    outcome_bind (the_banks r) λ banks r.
+    outcome_bind (the mark.CloseBracket r) λ closer r.
     good (λ more. dim_then opener size banks closer more) r
 
 abbrev pub the_dims : ℕ → List Token → Outcome DimsText
 the_dims zero ts = deep
 the_dims (suc n) ts =
     if comes mark.OpenBracket ts
-    then (bind (the mark.OpenBracket ts) λ opener r.
-    bind (the_number r) λ size r.
-    bind (the_banks r) λ banks r.
-    bind (the mark.CloseBracket r) λ closer r.
-    bind (the_dims n r) λ more r.
+    then (outcome_bind (the mark.OpenBracket ts) λ opener r.
+    outcome_bind (the_number r) λ size r.
+    outcome_bind (the_banks r) λ banks r.
+    outcome_bind (the mark.CloseBracket r) λ closer r.
+    outcome_bind (the_dims n r) λ more r.
     good (dim_then opener size banks closer more) r)
     else good no_dims ts
 
@@ -126,9 +126,9 @@ type_text k ports dims = record { kind = k; ports = ports; dims = dims }
 
 abbrev pub the_type : List Token → Outcome TypeText
 the_type ts =
-    bind (the_kind ts) λ k r.
-    bind (the_ports r) λ ports r.
-    bind (the_dims (suc (length r)) r) λ dims r.
+    outcome_bind (the_kind ts) λ k r.
+    outcome_bind (the_ports r) λ ports r.
+    outcome_bind (the_dims (suc (length r)) r) λ dims r.
     good (type_text k ports dims) r
 
 -- an operator and what follows it
@@ -170,102 +170,102 @@ sign_at k [] = None
 sign_at k (t ∷ ts) = sign_from k (op_from t.kind) t ts
 
 -- a reader of expressions of at least a level
-abbrev pub Reads : Type 0
-Reads = ℕ → List Token → Outcome ExprText
+abbrev pub ExpressionReader : Type 0
+ExpressionReader = ℕ → List Token → Outcome ExprText
 
-abbrev pub the_index : Reads → List Token → Outcome IndexText
+abbrev pub the_index : ExpressionReader → List Token → Outcome IndexText
 the_index read ts =
-    bind (the mark.OpenBracket ts) λ opener r.
-    bind (read 0 r) λ e r.
-    bind (the mark.CloseBracket r) λ closer r.
+    outcome_bind (the mark.OpenBracket ts) λ opener r.
+    outcome_bind (read 0 r) λ e r.
+    outcome_bind (the mark.CloseBracket r) λ closer r.
     good (index opener e closer) r
 
-abbrev pub more_indices : Reads → ℕ → List Token → Outcome MoreIndicesText
+abbrev pub more_indices : ExpressionReader → ℕ → List Token → Outcome MoreIndicesText
 more_indices read zero ts = deep
 more_indices read (suc n) ts =
     if comes mark.OpenBracket ts
-    then (bind (the_index read ts) λ i r.
-    bind (more_indices read n r) λ more r.
+    then (outcome_bind (the_index read ts) λ i r.
+    outcome_bind (more_indices read n r) λ more r.
     good (index_then i more) r)
     else good no_indices ts
 
 -- indices, of which there is one at least
-abbrev pub all_indices : Reads → List Token → Outcome (IndexText × MoreIndicesText)
+abbrev pub all_indices : ExpressionReader → List Token → Outcome (IndexText × MoreIndicesText)
 all_indices read ts =
-    bind (the_index read ts) λ i r.
-    bind (more_indices read (suc (length r)) r) λ more r.
+    outcome_bind (the_index read ts) λ i r.
+    outcome_bind (more_indices read (suc (length r)) r) λ more r.
     good (i, more) r
 
 -- what follows the name of an access
-abbrev pub access_from : Reads → NameText → List Token → Outcome AccessText
+abbrev pub access_from : ExpressionReader → NameText → List Token → Outcome AccessText
 access_from read n ts =
     if comes mark.OpenBrace ts
-    then (bind (the mark.OpenBrace ts) λ opener r.
-    bind (the_number r) λ bank r.
-    bind (the mark.CloseBrace r) λ closer r.
-    bind (the_index read r) λ i r.
+    then (outcome_bind (the mark.OpenBrace ts) λ opener r.
+    outcome_bind (the_number r) λ bank r.
+    outcome_bind (the mark.CloseBrace r) λ closer r.
+    outcome_bind (the_index read r) λ i r.
     good (physical n opener bank closer i) r)
-    else (bind (the_index read ts) λ i r.
-    bind (more_indices read (suc (length r)) r) λ more r.
+    else (outcome_bind (the_index read ts) λ i r.
+    outcome_bind (more_indices read (suc (length r)) r) λ more r.
     good (element n i more) r)
 
 -- whether an access goes on after its name
-abbrev pub goes_on : List Token → Bool
-goes_on ts = if comes mark.OpenBracket ts then true else comes mark.OpenBrace ts
+abbrev pub access_goes_on : List Token → Bool
+access_goes_on ts = if comes mark.OpenBracket ts then true else comes mark.OpenBrace ts
 
 -- what follows the name of an operand
-abbrev pub named_from : Reads → NameText → List Token → Outcome ExprText
+abbrev pub named_from : ExpressionReader → NameText → List Token → Outcome ExprText
 named_from read n ts =
-    if goes_on ts
-    then (bind (access_from read n ts) λ a r. good (access a) r)
+    if access_goes_on ts
+    then (outcome_bind (access_from read n ts) λ a r. good (access a) r)
     else good (variable n) ts
 
 -- what follows `(`
-abbrev pub bracket_from : Reads → Place → List Token → Outcome ExprText
+abbrev pub bracket_from : ExpressionReader → Place → List Token → Outcome ExprText
 bracket_from read opener ts =
-    bind (read 0 ts) λ e r.
+    outcome_bind (read 0 ts) λ e r.
     if comes mark.As r
-    then (bind (the mark.As r) λ word r.
-    bind (the_kind r) λ k r.
-    bind (the mark.CloseParen r) λ closer r.
+    then (outcome_bind (the mark.As r) λ word r.
+    outcome_bind (the_kind r) λ k r.
+    outcome_bind (the mark.CloseParen r) λ closer r.
     good (cast opener e word k closer) r)
-    else (bind (the mark.CloseParen r) λ closer r.
+    else (outcome_bind (the mark.CloseParen r) λ closer r.
     good (bracket opener e closer) r)
 
-abbrev pub operand_from : Reads → TokenKind → Token → List Token → Outcome ExprText
+abbrev pub operand_from : ExpressionReader → TokenKind → Token → List Token → Outcome ExprText
 operand_from read (kind.Number n) t ts = good (literal (number_text n t.place)) ts
-operand_from read kind.Minus t ts = bind (the_number ts) λ n r. good (negative t.place n) r
+operand_from read kind.Minus t ts = outcome_bind (the_number ts) λ n r. good (negative t.place n) r
 operand_from read kind.True t ts = good (truth true t.place) ts
 operand_from read kind.False t ts = good (truth false t.place) ts
 operand_from read (kind.Name n) t ts = named_from read (name_text n t.place) ts
 operand_from read kind.OpenParen t ts = bracket_from read t.place ts
 operand_from read _ t ts = bad (t ∷ ts)
 
-abbrev pub operand : Reads → List Token → Outcome ExprText
+abbrev pub operand : ExpressionReader → List Token → Outcome ExprText
 operand read [] = bad []
 operand read (t ∷ ts) = operand_from read t.kind t ts
 
 -- goes on with the right operand of an operator
-abbrev pub chain_with : Reads → ExprText → List Token → (ExprText → List Token → Outcome ExprText) → Option Sign → Outcome ExprText
+abbrev pub chain_with : ExpressionReader → ExprText → List Token → (ExprText → List Token → Outcome ExprText) → Option Sign → Outcome ExprText
 chain_with read e ts go None = good e ts
-chain_with read e ts go (Some s) = bind (read (suc (level s.op)) s.rest) λ f r. go (binary s.op s.place e f) r
+chain_with read e ts go (Some s) = outcome_bind (read (suc (level s.op)) s.rest) λ f r. go (binary s.op s.place e f) r
 
 -- what follows an operand: operators of at least this level with their right operands
-abbrev pub chain : Reads → ℕ → ℕ → ExprText → List Token → Outcome ExprText
+abbrev pub chain : ExpressionReader → ℕ → ℕ → ExprText → List Token → Outcome ExprText
 chain read zero k e ts = deep
 chain read (suc n) k e ts = chain_with read e ts (λ f r. chain read n k f r) (sign_at k ts)
 
 -- an expression of operators of at least this level
 abbrev pub read : ℕ → ℕ → List Token → Outcome ExprText
 read zero k ts = deep
-read (suc d) k ts = bind (operand (read d) ts) λ e r. chain (read d) (suc (length r)) k e r
+read (suc d) k ts = outcome_bind (operand (read d) ts) λ e r. chain (read d) (suc (length r)) k e r
 
 -- more steps than there are tokens
 abbrev pub steps : List Token → ℕ
 steps ts = suc (length ts)
 
 -- an expression of operators of at least this level, with steps enough
-unfoldable pub expression : Reads
+unfoldable pub expression : ExpressionReader
 expression k ts = read (steps ts) k ts
 
 abbrev pub the_expression : List Token → Outcome ExprText
@@ -274,28 +274,28 @@ the_expression ts = expression 0 ts
 -- `, argument`
 abbrev pub the_argument : List Token → Outcome (Place × ExprText)
 the_argument ts =
-    bind (the mark.Comma ts) λ comma r.
-    bind (the_expression r) λ e r.
+    outcome_bind (the mark.Comma ts) λ comma r.
+    outcome_bind (the_expression r) λ e r.
     good (comma, e) r
 
 abbrev pub more_arguments : ℕ → List Token → Outcome MoreArgumentsText
 more_arguments zero ts = deep
 more_arguments (suc n) ts =
     if comes mark.Comma ts
-    then (bind (the mark.Comma ts) λ comma r.
-    bind (the_expression r) λ e r.
-    bind (more_arguments n r) λ more r.
+    then (outcome_bind (the mark.Comma ts) λ comma r.
+    outcome_bind (the_expression r) λ e r.
+    outcome_bind (more_arguments n r) λ more r.
     good (argument_then comma e more) r)
-    else (bind (the mark.CloseParen ts) λ closer r.
+    else (outcome_bind (the mark.CloseParen ts) λ closer r.
     good (no_more_arguments closer) r)
 
 -- what follows `(`
 abbrev pub the_arguments : List Token → Outcome ArgumentsText
 the_arguments ts =
     if comes mark.CloseParen ts
-    then (bind (the mark.CloseParen ts) λ closer r. good (no_arguments closer) r)
-    else (bind (the_expression ts) λ e r.
-    bind (more_arguments (steps r) r) λ more r.
+    then (outcome_bind (the mark.CloseParen ts) λ closer r. good (no_arguments closer) r)
+    else (outcome_bind (the_expression ts) λ e r.
+    outcome_bind (more_arguments (steps r) r) λ more r.
     good (some_arguments e more) r)
 
 -- `( test )`, what an `if` or a `while` asks
@@ -309,9 +309,9 @@ test_text opener test closer = record { opener = opener; test = test; closer = c
 
 abbrev pub the_test : List Token → Outcome TestText
 the_test ts =
-    bind (the mark.OpenParen ts) λ opener r.
-    bind (the_expression r) λ e r.
-    bind (the mark.CloseParen r) λ closer r.
+    outcome_bind (the mark.OpenParen ts) λ opener r.
+    outcome_bind (the_expression r) λ e r.
+    outcome_bind (the mark.CloseParen r) λ closer r.
     good (test_text opener e closer) r
 
 -- `as kind )`, what makes an expression behind `(` a cast
@@ -325,9 +325,9 @@ cast_text word k closer = record { word = word; kind = k; closer = closer }
 
 abbrev pub the_cast : List Token → Outcome CastText
 the_cast ts =
-    bind (the mark.As ts) λ word r.
-    bind (the_kind r) λ k r.
-    bind (the mark.CloseParen r) λ closer r.
+    outcome_bind (the mark.As ts) λ word r.
+    outcome_bind (the_kind r) λ k r.
+    outcome_bind (the mark.CloseParen r) λ closer r.
     good (cast_text word k closer) r
 
 abbrev pub factor_text : Place → Place → NumberText → Place → FactorText
@@ -341,28 +341,28 @@ offset_text opener word offset closer = record { opener = opener; word = word; o
 
 abbrev pub the_factor : List Token → Outcome FactorText
 the_factor ts =
-    bind (the mark.OpenBracket ts) λ opener r.
-    bind (the mark.By r) λ word r.
-    bind (the_number r) λ factor r.
-    bind (the mark.CloseBracket r) λ closer r.
+    outcome_bind (the mark.OpenBracket ts) λ opener r.
+    outcome_bind (the mark.By r) λ word r.
+    outcome_bind (the_number r) λ factor r.
+    outcome_bind (the mark.CloseBracket r) λ closer r.
     good (factor_text opener word factor closer) r
 
 abbrev pub the_suffix : List Token → Outcome SuffixText
 the_suffix ts =
-    bind (the mark.OpenBracket ts) λ opener r.
-    bind (the mark.By r) λ word r.
-    bind (the_number r) λ factor r.
-    bind (the mark.Star r) λ sign r.
-    bind (operand (read (steps r)) r) λ offset r.
-    bind (the mark.CloseBracket r) λ closer r.
+    outcome_bind (the mark.OpenBracket ts) λ opener r.
+    outcome_bind (the mark.By r) λ word r.
+    outcome_bind (the_number r) λ factor r.
+    outcome_bind (the mark.Star r) λ sign r.
+    outcome_bind (operand (read (steps r)) r) λ offset r.
+    outcome_bind (the mark.CloseBracket r) λ closer r.
     good (suffix_text opener word factor sign offset closer) r
 
 abbrev pub the_offset : List Token → Outcome OffsetText
 the_offset ts =
-    bind (the mark.OpenBracket ts) λ opener r.
-    bind (the mark.By r) λ word r.
-    bind (the_expression r) λ offset r.
-    bind (the mark.CloseBracket r) λ closer r.
+    outcome_bind (the mark.OpenBracket ts) λ opener r.
+    outcome_bind (the mark.By r) λ word r.
+    outcome_bind (the_expression r) λ offset r.
+    outcome_bind (the mark.CloseBracket r) λ closer r.
     good (offset_text opener word offset closer) r
 
 -- more of what begins with `[`
@@ -370,29 +370,29 @@ abbrev pub more_of : {A : Type 0} → (List Token → Outcome A) → ℕ → Lis
 more_of one zero ts = deep
 more_of one (suc n) ts =
     if comes mark.OpenBracket ts
-    then (bind (one ts) λ a r. bind (more_of one n r) λ more r. good (a ∷ more) r)
+    then (outcome_bind (one ts) λ a r. outcome_bind (more_of one n r) λ more r. good (a ∷ more) r)
     else good [] ts
 
 -- what begins with `[`, once or more
 abbrev pub all_of : {A : Type 0} → (List Token → Outcome A) → List Token → Outcome (A × List A)
 all_of one ts =
-    bind (one ts) λ a r.
-    bind (more_of one (steps r) r) λ more r.
+    outcome_bind (one ts) λ a r.
+    outcome_bind (more_of one (steps r) r) λ more r.
     good (a, more) r
 
 -- the parent of a view and its brackets, apart
 abbrev pub parent_and : {A : Type 0} → (List Token → Outcome A) → List Token → Outcome (NameText × (A × List A))
 parent_and one ts =
-    bind (the_name ts) λ parent r.
-    bind (all_of one r) λ l r.
+    outcome_bind (the_name ts) λ parent r.
+    outcome_bind (all_of one r) λ l r.
     good (parent, l) r
 
 -- the parent of a view and its brackets
 abbrev pub brackets : {A : Type 0} → (List Token → Outcome A) → (NameText → A → List A → ViewText) → List Token → Outcome ViewText
 brackets one make ts =
-    bind (the_name ts) λ parent r.
-    bind (one r) λ a r.
-    bind (more_of one (steps r) r) λ more r.
+    outcome_bind (the_name ts) λ parent r.
+    outcome_bind (one r) λ a r.
+    outcome_bind (more_of one (steps r) r) λ more r.
     good (make parent a more) r
 
 abbrev pub view_from : TokenKind → Token → List Token → Outcome ViewText
@@ -409,30 +409,30 @@ the_view (t ∷ ts) = view_from t.kind t ts
 abbrev pub the_value : List Token → Outcome ValueText
 the_value ts =
     if comes mark.Assign ts
-    then (bind (the mark.Assign ts) λ equal r.
-    bind (the_expression r) λ e r.
+    then (outcome_bind (the mark.Assign ts) λ equal r.
+    outcome_bind (the_expression r) λ e r.
     good (some_value equal e) r)
     else good no_value ts
 
 -- what follows `let`
 abbrev pub let_from : Place → List Token → Outcome SimpleText
 let_from word ts =
-    bind (the_name ts) λ n r.
+    outcome_bind (the_name ts) λ n r.
     if comes mark.Colon r
-    then (bind (the mark.Colon r) λ colon r.
-    bind (the_type r) λ t r.
-    bind (the_value r) λ value r.
+    then (outcome_bind (the mark.Colon r) λ colon r.
+    outcome_bind (the_type r) λ t r.
+    outcome_bind (the_value r) λ value r.
     good (let_typed word n colon t value) r)
-    else (bind (the mark.Assign r) λ equal r.
-    bind (the_expression r) λ e r.
+    else (outcome_bind (the mark.Assign r) λ equal r.
+    outcome_bind (the_expression r) λ e r.
     good (let_value word n equal e) r)
 
 -- what follows `view`
 abbrev pub view_command_from : Place → List Token → Outcome SimpleText
 view_command_from word ts =
-    bind (the_name ts) λ n r.
-    bind (the mark.Assign r) λ equal r.
-    bind (the_view r) λ v r.
+    outcome_bind (the_name ts) λ n r.
+    outcome_bind (the mark.Assign r) λ equal r.
+    outcome_bind (the_view r) λ v r.
     good (view word n equal v) r
 
 -- the sign of a reducer that a token is
@@ -443,20 +443,20 @@ reducer_from kind.StarAssign = Some multiplies
 reducer_from _ = None
 
 abbrev pub reduce_from : NameText → ReducerText → Place → List Token → Outcome SimpleText
-reduce_from n sign place ts = bind (the_expression ts) λ e r. good (reduce n sign place e) r
+reduce_from n sign place ts = outcome_bind (the_expression ts) λ e r. good (reduce n sign place e) r
 
 -- a store, after the name of its access
 abbrev pub store_from : NameText → List Token → Outcome SimpleText
 store_from n ts =
-    bind (access_from (read (steps ts)) n ts) λ a r.
-    bind (the mark.Becomes r) λ becomes r.
-    bind (the_expression r) λ e r.
+    outcome_bind (access_from (read (steps ts)) n ts) λ a r.
+    outcome_bind (the mark.Becomes r) λ becomes r.
+    outcome_bind (the_expression r) λ e r.
     good (store a becomes e) r
 
 -- a command after the name that begins it, by the token that follows
 abbrev pub after_name_from : NameText → TokenKind → Token → List Token → Outcome SimpleText
-after_name_from n kind.Becomes t ts = bind (the_expression ts) λ e r. good (assign n t.place e) r
-after_name_from n kind.OpenParen t ts = bind (the_arguments ts) λ arguments r. good (call n t.place arguments) r
+after_name_from n kind.Becomes t ts = outcome_bind (the_expression ts) λ e r. good (assign n t.place e) r
+after_name_from n kind.OpenParen t ts = outcome_bind (the_arguments ts) λ arguments r. good (call n t.place arguments) r
 after_name_from n kind.OpenBracket t ts = store_from n (t ∷ ts)
 after_name_from n kind.OpenBrace t ts = store_from n (t ∷ ts)
 after_name_from n kind.PlusAssign t ts = reduce_from n adds t.place ts
@@ -481,16 +481,16 @@ the_simple (t ∷ ts) = simple_from t.kind t ts
 abbrev pub the_declared : List Token → Outcome DeclaredText
 the_declared ts =
     if comes mark.Colon ts
-    then (bind (the mark.Colon ts) λ colon r.
-    bind (the_kind r) λ k r.
+    then (outcome_bind (the mark.Colon ts) λ colon r.
+    outcome_bind (the_kind r) λ k r.
     good (some_declared colon k) r)
     else good no_declared ts
 
 abbrev pub the_unroll : List Token → Outcome UnrollText
 the_unroll ts =
     if comes mark.Unroll ts
-    then (bind (the mark.Unroll ts) λ word r.
-    bind (the_number r) λ factor r.
+    then (outcome_bind (the mark.Unroll ts) λ word r.
+    outcome_bind (the_number r) λ factor r.
     good (some_unroll word factor) r)
     else good no_unroll ts
 
@@ -508,12 +508,12 @@ range_text declared equal low range high closer = record { declared = declared; 
 
 abbrev pub the_range : List Token → Outcome RangeText
 the_range ts =
-    bind (the_declared ts) λ declared r.
-    bind (the mark.Assign r) λ equal r.
-    bind (the_number r) λ low r.
-    bind (the mark.Range r) λ range r.
-    bind (the_number r) λ high r.
-    bind (the mark.CloseParen r) λ closer r.
+    outcome_bind (the_declared ts) λ declared r.
+    outcome_bind (the mark.Assign r) λ equal r.
+    outcome_bind (the_number r) λ low r.
+    outcome_bind (the mark.Range r) λ range r.
+    outcome_bind (the_number r) λ high r.
+    outcome_bind (the mark.CloseParen r) λ closer r.
     good (range_text declared equal low range high closer) r
 
 abbrev pub head_text : Place → Place → Place → NameText → DeclaredText → Place → NumberText → Place → NumberText → Place → UnrollText → HeadText
@@ -533,17 +533,17 @@ head_text word opener let_word iterator declared equal low range high closer unr
 
 abbrev pub the_head : List Token → Outcome HeadText
 the_head ts =
-    bind (the mark.For ts) λ word r.
-    bind (the mark.OpenParen r) λ opener r.
-    bind (the mark.Let r) λ let_word r.
-    bind (the_name r) λ iterator r.
-    bind (the_declared r) λ declared r.
-    bind (the mark.Assign r) λ equal r.
-    bind (the_number r) λ low r.
-    bind (the mark.Range r) λ range r.
-    bind (the_number r) λ high r.
-    bind (the mark.CloseParen r) λ closer r.
-    bind (the_unroll r) λ unroll r.
+    outcome_bind (the mark.For ts) λ word r.
+    outcome_bind (the mark.OpenParen r) λ opener r.
+    outcome_bind (the mark.Let r) λ let_word r.
+    outcome_bind (the_name r) λ iterator r.
+    outcome_bind (the_declared r) λ declared r.
+    outcome_bind (the mark.Assign r) λ equal r.
+    outcome_bind (the_number r) λ low r.
+    outcome_bind (the mark.Range r) λ range r.
+    outcome_bind (the_number r) λ high r.
+    outcome_bind (the mark.CloseParen r) λ closer r.
+    outcome_bind (the_unroll r) λ unroll r.
     good (head_text word opener let_word iterator declared equal low range high closer unroll) r
 
 -- a reader of blocks
@@ -554,52 +554,52 @@ Blocks = List Token → Outcome BlockText
 abbrev pub the_if : Blocks → ℕ → List Token → Outcome IfText
 the_if blocks zero ts = deep
 the_if blocks (suc n) ts =
-    bind (the mark.If ts) λ word r.
-    bind (the mark.OpenParen r) λ opener r.
-    bind (the_expression r) λ e r.
-    bind (the mark.CloseParen r) λ closer r.
-    bind (blocks r) λ b r.
-    bind (if comes mark.Else r
-    then (bind (the mark.Else r) λ else_word q.
+    outcome_bind (the mark.If ts) λ word r.
+    outcome_bind (the mark.OpenParen r) λ opener r.
+    outcome_bind (the_expression r) λ e r.
+    outcome_bind (the mark.CloseParen r) λ closer r.
+    outcome_bind (blocks r) λ b r.
+    outcome_bind (if comes mark.Else r
+    then (outcome_bind (the mark.Else r) λ else_word q.
     if comes mark.If q
-    then (bind (the_if blocks n q) λ i q. good (else_if else_word i) q)
-    else (bind (blocks q) λ c q. good (else_block else_word c) q))
+    then (outcome_bind (the_if blocks n q) λ i q. good (else_if else_word i) q)
+    else (outcome_bind (blocks q) λ c q. good (else_block else_word c) q))
     else good no_else r) λ other r.
     good (if_else word opener e closer b other) r
 
 abbrev pub the_while : Blocks → List Token → Outcome CompoundText
 the_while blocks ts =
-    bind (the mark.While ts) λ word r.
-    bind (the mark.OpenParen r) λ opener r.
-    bind (the_expression r) λ e r.
-    bind (the mark.CloseParen r) λ closer r.
-    bind (blocks r) λ b r.
+    outcome_bind (the mark.While ts) λ word r.
+    outcome_bind (the mark.OpenParen r) λ opener r.
+    outcome_bind (the_expression r) λ e r.
+    outcome_bind (the mark.CloseParen r) λ closer r.
+    outcome_bind (blocks r) λ b r.
     good (while_loop word opener e closer b) r
 
 abbrev pub the_combine : Blocks → List Token → Outcome CombineText
 the_combine blocks ts =
     if comes mark.Combine ts
-    then (bind (the mark.Combine ts) λ word r.
-    bind (blocks r) λ b r.
+    then (outcome_bind (the mark.Combine ts) λ word r.
+    outcome_bind (blocks r) λ b r.
     good (some_combine word b) r)
     else good no_combine ts
 
 abbrev pub the_for : Blocks → List Token → Outcome CompoundText
 the_for blocks ts =
-    bind (the_head ts) λ h r.
-    bind (blocks r) λ b r.
-    bind (the_combine blocks r) λ combine r.
+    outcome_bind (the_head ts) λ h r.
+    outcome_bind (blocks r) λ b r.
+    outcome_bind (the_combine blocks r) λ combine r.
     good (for_loop h b combine) r
 
 abbrev pub the_compound : Blocks → List Token → Outcome CompoundText
 the_compound blocks ts =
     if comes mark.If ts
-    then (bind (the_if blocks (steps ts) ts) λ i r. good (if_alone i) r)
+    then (outcome_bind (the_if blocks (steps ts) ts) λ i r. good (if_alone i) r)
     else (if comes mark.While ts
     then the_while blocks ts
     else (if comes mark.For ts
     then the_for blocks ts
-    else (bind (blocks ts) λ b r. good (block_alone b) r)))
+    else (outcome_bind (blocks ts) λ b r. good (block_alone b) r)))
 
 -- what begins at a token, among the commands of a part
 pub data Beginning : Type 0 where
@@ -623,19 +623,19 @@ beginning (t ∷ ts) = beginning_of t.kind
 -- a part whose first command begins so; `go` reads the rest of it
 abbrev pub part_with : Blocks → (List Token → Outcome PartText) → List Token → Beginning → Outcome PartText
 part_with blocks go ts begins_simple =
-    bind (the_simple ts) λ s r.
+    outcome_bind (the_simple ts) λ s r.
     if comes mark.Semicolon r
-    then (bind (the mark.Semicolon r) λ semicolon r.
-    bind (go r) λ more r.
+    then (outcome_bind (the mark.Semicolon r) λ semicolon r.
+    outcome_bind (go r) λ more r.
     good (simple_then s semicolon more) r)
     else good (last_simple s) r
 part_with blocks go ts begins_compound =
-    bind (the_compound blocks ts) λ c r.
-    bind (go r) λ more r.
+    outcome_bind (the_compound blocks ts) λ c r.
+    outcome_bind (go r) λ more r.
     good (compound_then c more) r
 part_with blocks go ts begins_semicolon =
-    bind (the mark.Semicolon ts) λ semicolon r.
-    bind (go r) λ more r.
+    outcome_bind (the mark.Semicolon ts) λ semicolon r.
+    outcome_bind (go r) λ more r.
     good (semicolon_then semicolon more) r
 part_with blocks go ts begins_nothing = good end_of_part ts
 
@@ -646,19 +646,19 @@ the_part blocks (suc n) ts = part_with blocks (the_part blocks n) ts (beginning 
 abbrev pub the_parts : Blocks → ℕ → List Token → Outcome PartsText
 the_parts blocks zero ts = deep
 the_parts blocks (suc n) ts =
-    bind (the_part blocks (steps ts) ts) λ p r.
+    outcome_bind (the_part blocks (steps ts) ts) λ p r.
     if comes mark.Dashes r
-    then (bind (the mark.Dashes r) λ dashes r.
-    bind (the_parts blocks n r) λ more r.
+    then (outcome_bind (the mark.Dashes r) λ dashes r.
+    outcome_bind (the_parts blocks n r) λ more r.
     good (part_then p dashes more) r)
     else good (last_part p) r
 
 abbrev pub read_block : ℕ → Blocks
 read_block zero ts = deep
 read_block (suc d) ts =
-    bind (the mark.OpenBrace ts) λ opener r.
-    bind (the_parts (read_block d) (steps r) r) λ parts r.
-    bind (the mark.CloseBrace r) λ closer r.
+    outcome_bind (the mark.OpenBrace ts) λ opener r.
+    outcome_bind (the_parts (read_block d) (steps r) r) λ parts r.
+    outcome_bind (the mark.CloseBrace r) λ closer r.
     good (block opener parts closer) r
 
 -- a block, with steps enough
@@ -673,10 +673,10 @@ whole_if ts = the_if the_block (steps ts) ts
 abbrev pub whole_else : List Token → Outcome ElseText
 whole_else ts =
     if comes mark.Else ts
-    then (bind (the mark.Else ts) λ else_word r.
+    then (outcome_bind (the mark.Else ts) λ else_word r.
     if comes mark.If r
-    then (bind (whole_if r) λ i r. good (else_if else_word i) r)
-    else (bind (the_block r) λ b r. good (else_block else_word b) r))
+    then (outcome_bind (whole_if r) λ i r. good (else_if else_word i) r)
+    else (outcome_bind (the_block r) λ b r. good (else_block else_word b) r))
     else good no_else ts
 
 abbrev pub parameter_text : NameText → Place → TypeText → ParameterText
@@ -684,57 +684,57 @@ parameter_text n colon t = record { name = n; colon = colon; written = t }
 
 abbrev pub the_parameter : List Token → Outcome ParameterText
 the_parameter ts =
-    bind (the_name ts) λ n r.
-    bind (the mark.Colon r) λ colon r.
-    bind (the_type r) λ t r.
+    outcome_bind (the_name ts) λ n r.
+    outcome_bind (the mark.Colon r) λ colon r.
+    outcome_bind (the_type r) λ t r.
     good (parameter_text n colon t) r
 
 -- `, name: type`
 abbrev pub further_parameter : List Token → Outcome (Place × ParameterText)
 further_parameter ts =
-    bind (the mark.Comma ts) λ comma r.
-    bind (the_parameter r) λ p r.
+    outcome_bind (the mark.Comma ts) λ comma r.
+    outcome_bind (the_parameter r) λ p r.
     good (comma, p) r
 
 abbrev pub more_parameters : ℕ → List Token → Outcome MoreParametersText
 more_parameters zero ts = deep
 more_parameters (suc n) ts =
     if comes mark.Comma ts
-    then (bind (the mark.Comma ts) λ comma r.
-    bind (the_parameter r) λ p r.
-    bind (more_parameters n r) λ more r.
+    then (outcome_bind (the mark.Comma ts) λ comma r.
+    outcome_bind (the_parameter r) λ p r.
+    outcome_bind (more_parameters n r) λ more r.
     good (parameter_then comma p more) r)
-    else (bind (the mark.CloseParen ts) λ closer r.
+    else (outcome_bind (the mark.CloseParen ts) λ closer r.
     good (no_more_parameters closer) r)
 
 -- what follows `(`
 abbrev pub the_parameters : List Token → Outcome ParametersText
 the_parameters ts =
     if comes mark.CloseParen ts
-    then (bind (the mark.CloseParen ts) λ closer r. good (no_parameters closer) r)
-    else (bind (the_parameter ts) λ p r.
-    bind (more_parameters (steps r) r) λ more r.
+    then (outcome_bind (the mark.CloseParen ts) λ closer r. good (no_parameters closer) r)
+    else (outcome_bind (the_parameter ts) λ p r.
+    outcome_bind (more_parameters (steps r) r) λ more r.
     good (some_parameters p more) r)
 
 -- what follows `decl`, and further items
 abbrev pub decl_from : Place → (List Token → Outcome ItemsText) → List Token → Outcome ItemsText
 decl_from word go ts =
-    bind (the_name ts) λ n r.
-    bind (the mark.Colon r) λ colon r.
-    bind (the_type r) λ t r.
-    bind (the mark.Semicolon r) λ semicolon r.
-    bind (go r) λ more r.
+    outcome_bind (the_name ts) λ n r.
+    outcome_bind (the mark.Colon r) λ colon r.
+    outcome_bind (the_type r) λ t r.
+    outcome_bind (the mark.Semicolon r) λ semicolon r.
+    outcome_bind (go r) λ more r.
     good (decl_then word n colon t semicolon more) r
 
 -- what follows `def`, and further items
 abbrev pub def_from : Place → (List Token → Outcome ItemsText) → List Token → Outcome ItemsText
 def_from word go ts =
-    bind (the_name ts) λ n r.
-    bind (the mark.OpenParen r) λ opener r.
-    bind (the_parameters r) λ ps r.
-    bind (the mark.Assign r) λ equal r.
-    bind (the_block r) λ b r.
-    bind (go r) λ more r.
+    outcome_bind (the_name ts) λ n r.
+    outcome_bind (the mark.OpenParen r) λ opener r.
+    outcome_bind (the_parameters r) λ ps r.
+    outcome_bind (the mark.Assign r) λ equal r.
+    outcome_bind (the_block r) λ b r.
+    outcome_bind (go r) λ more r.
     good (def_then word n opener ps equal b more) r
 
 abbrev pub items_from : (List Token → Outcome ItemsText) → TokenKind → Token → List Token → Outcome ItemsText
@@ -750,26 +750,26 @@ the_items (suc n) (t ∷ ts) = items_from (the_items n) t.kind t ts
 -- what follows `decl`, as what it is put in front of other items
 abbrev pub the_decl : Place → List Token → Outcome (ItemsText → ItemsText)
 the_decl word ts =
-    bind (the_name ts) λ n r.
-    bind (the mark.Colon r) λ colon r.
-    bind (the_type r) λ t r.
-    bind (the mark.Semicolon r) λ semicolon r.
+    outcome_bind (the_name ts) λ n r.
+    outcome_bind (the mark.Colon r) λ colon r.
+    outcome_bind (the_type r) λ t r.
+    outcome_bind (the mark.Semicolon r) λ semicolon r.
     good (λ more. decl_then word n colon t semicolon more) r
 
 -- what follows `def`, as what it is put in front of other items
 abbrev pub the_def : Place → List Token → Outcome (ItemsText → ItemsText)
 the_def word ts =
-    bind (the_name ts) λ n r.
-    bind (the mark.OpenParen r) λ opener r.
-    bind (the_parameters r) λ ps r.
-    bind (the mark.Assign r) λ equal r.
-    bind (the_block r) λ b r.
+    outcome_bind (the_name ts) λ n r.
+    outcome_bind (the mark.OpenParen r) λ opener r.
+    outcome_bind (the_parameters r) λ ps r.
+    outcome_bind (the mark.Assign r) λ equal r.
+    outcome_bind (the_block r) λ b r.
     good (λ more. def_then word n opener ps equal b more) r
 
 -- an item, if one comes next
 abbrev pub item_from : TokenKind → Token → List Token → Outcome (Option (ItemsText → ItemsText))
-item_from kind.Decl t ts = bind (the_decl t.place ts) λ put r. good (Some put) r
-item_from kind.Def t ts = bind (the_def t.place ts) λ put r. good (Some put) r
+item_from kind.Decl t ts = outcome_bind (the_decl t.place ts) λ put r. good (Some put) r
+item_from kind.Def t ts = outcome_bind (the_def t.place ts) λ put r. good (Some put) r
 item_from _ t ts = good None (t ∷ ts)
 
 abbrev pub the_item : List Token → Outcome (Option (ItemsText → ItemsText))
@@ -779,8 +779,8 @@ the_item (t ∷ ts) = item_from t.kind t ts
 -- the parts of the body, and the end
 abbrev pub the_body : List Token → Outcome (PartsText × Place)
 the_body ts =
-    bind (the_parts the_block (steps ts) ts) λ parts r.
-    bind (the mark.End r) λ end r.
+    outcome_bind (the_parts the_block (steps ts) ts) λ parts r.
+    outcome_bind (the mark.End r) λ end r.
     good (parts, end) r
 
 abbrev pub program_text : ItemsText → PartsText → Place → ProgramText
@@ -789,7 +789,7 @@ program_text items parts end = record { items = items; parts = parts; end = end 
 -- a whole program
 abbrev pub the_program : List Token → Outcome ProgramText
 the_program ts =
-    bind (the_items (steps ts) ts) λ items r.
-    bind (the_parts (read_block (steps r)) (steps r) r) λ parts r.
-    bind (the mark.End r) λ end r.
+    outcome_bind (the_items (steps ts) ts) λ items r.
+    outcome_bind (the_parts (read_block (steps r)) (steps r) r) λ parts r.
+    outcome_bind (the mark.End r) λ end r.
     good (program_text items parts end) r

@@ -4,14 +4,14 @@ ghost use Rattle.std.specs.Prelude.{◌≡◌, List};
 ghost use Rattle.dh_lexer.specs.LexedText.{AreEnded};
 ghost use Rattle.dh_lexer.specs.declared.tokens.Token.{Token};
 ghost use Rattle.dh_tree.specs.PlainTrees.{Program};
-ghost use Rattle.dh_parser.specs.Programs.{IsSound, IsAnswered, IsPlaced, Spells, AtMostOneOutOfPlace, IsOfTextIfSpelled, IsReadAgain, NoneOutOfPlaceIfSpelled};
+ghost use Rattle.dh_parser.specs.Programs.{IsSoundReading, IsAnswered, IsPlaced, Spells, AtMostOneOutOfPlace, IsOfTextIfSpelled, IsReadAgain, NoneOutOfPlaceIfSpelled};
 ghost use Rattle.dh_parser.specs.Allowed.{ProgramFits};
 ghost use Rattle.dh_parser.specs.Grammar.{ProgramText};
 ghost use Rattle.dh_parser.specs.Reading.{the_program};
 
 /// What the reader of programs reads is a text of the grammar that has the tokens which it took.
 pub fn reading_is_sound()
-    ensures { (tokens : List Token) → IsSound tokens (the_program tokens) }
+    ensures { (tokens : List Token) → IsSoundReading tokens (the_program tokens) }
 {}
 
 /// The reader of programs has an answer for all lists of tokens: it has steps enough.

@@ -7,14 +7,13 @@ use Rattle.std.proofs.lemmas.List.{length-replicate}
 use Rattle.std.proofs.Math.Nat.{min-eq_left, mul-le-mul_right}
 use Rattle.dh_meaning.specs.Paths.{copies_in}
 use Rattle.dh_sound.specs.Blocks.{factors}
-use Rattle.dh_plan.specs.Correspondence.{Round}
+use Rattle.dh_plan.specs.Correspondence.{Round, loops_round}
 use Rattle.dh_expressions.specs.declared.paths.Level.{Level}
 use Rattle.dh_expressions.specs.Levels.{count_inside, levels_inside, spread_level}
 use Rattle.dh_expressions.specs.Shown.{guard_or_none}
 use Rattle.dh_commands.specs.ShownVariables.{level_factors}
 use Rattle.dh_blocks.specs.PathsOfLevels.{AreSpread}
 use Rattle.dh_gathering.specs.MadeBlocks.{AreWithin}
-use Rattle.dh_gathering.specs.PlacedPhases.{loops_round}
 use Rattle.dh_phased.specs.TopPaths.{RoundsAreTop}
 
 pub copies_more : (fs : List ℕ) (f : ℕ) → copies_in (fs ++ f ∷ []) ≡ copies_in fs * f

@@ -7,7 +7,7 @@ use Rattle.dh_tree.specs.declared.trees.programs.Tree.{Tree}
 use Rattle.dh_tree.specs.Seen.{action_seen, program_seen}
 use Rattle.dh_tree.specs.PlainTrees.{Action, action, ActionForm, lets, lets_memory, views, assigns, stores, reduces, calls, blocks, decides, repeats, counts, MaybeAction, no_action, one_action, Actions, no_actions, action_then, Groups, no_groups, group_then}
 use Rattle.dh_tree.specs.Numbers.{commands_in, commands_inside, commands_in_other, commands_in_groups, commands_in_part, IsNumbered, IsNumberedInside, IsNumberedOther, AreNumberedGroups, AreNumbered}
-use Rattle.dh_phases.specs.FoundCommands.{HasCommand, Holds, HoldsInside, HoldsOther, HoldInGroups, HoldInPart, found_or, first_of, first_inside, first_in_other, first_in_groups, first_in_part}
+use Rattle.dh_phases.specs.FoundCommands.{HasCommand, HoldsCommand, HoldsInside, HoldsOther, HoldInGroups, HoldInPart, found_or, first_in_command, first_in_form, first_in_other, first_in_groups, first_in_part}
 
 -- the number of a command that is held lies in the numbers of the commands
 module _ (n : ℕ) (a : Action) where
@@ -16,7 +16,7 @@ module _ (n : ℕ) (a : Action) where
   either m k j (inr h) = (omega (arith, h.0), omega (arith, h.1))
 
   mutual
-    within : (m : ℕ) (b : Action) → IsNumbered m b → Holds b n a → (m ≤ n) × (n < m + commands_in b)
+    within : (m : ℕ) (b : Action) → IsNumbered m b → HoldsCommand b n a → (m ≤ n) × (n < m + commands_in b)
     within m (action id place form) i (inl h) =
         let here : id ≡ n = h.0 in
         let first : id ≡ m = i.0 in
@@ -78,19 +78,19 @@ module _ (n : ℕ) where
   both_none x y e f = ap (λ o. found_or o y) e ∙ f
 
   mutual
-    beyond : (m : ℕ) (b : Action) → IsNumbered m b → m + commands_in b ≤ n → first_of n b ≡ None
+    beyond : (m : ℕ) (b : Action) → IsNumbered m b → m + commands_in b ≤ n → first_in_command n b ≡ None
     beyond m (action id place form) i past =
         let first : id ≡ m = i.0 in
         let differs : id ≢ n = omega (arith, past, first) in
-        skipped n id (Some (action id place form)) (first_inside n form) None differs (beyond_inside (suc m) form i.1 (omega (arith, past)))
+        skipped n id (Some (action id place form)) (first_in_form n form) None differs (beyond_inside (suc m) form i.1 (omega (arith, past)))
 
-    beyond_inside : (m : ℕ) (form : ActionForm) → IsNumberedInside m form → m + commands_inside form ≤ n → first_inside n form ≡ None
+    beyond_inside : (m : ℕ) (form : ActionForm) → IsNumberedInside m form → m + commands_inside form ≤ n → first_in_form n form ≡ None
     beyond_inside m (blocks body) i past = beyond_groups m body i past
     beyond_inside m (decides test chosen other) i past =
-        both_none (first_of n chosen) (first_in_other n other) (beyond m chosen i.0 (omega (arith, past))) (beyond_other (m + commands_in chosen) other i.1 (omega (arith, past)))
+        both_none (first_in_command n chosen) (first_in_other n other) (beyond m chosen i.0 (omega (arith, past))) (beyond_other (m + commands_in chosen) other i.1 (omega (arith, past)))
     beyond_inside m (repeats test body) i past = beyond m body i past
     beyond_inside m (counts iterator declared low high factor body combine place) i past =
-        both_none (first_of n body) (first_in_other n combine) (beyond m body i.0 (omega (arith, past))) (beyond_other (m + commands_in body) combine i.1 (omega (arith, past)))
+        both_none (first_in_command n body) (first_in_other n combine) (beyond m body i.0 (omega (arith, past))) (beyond_other (m + commands_in body) combine i.1 (omega (arith, past)))
     beyond_inside m (lets name declared value) i past = refl
     beyond_inside m (lets_memory name shape places value) i past = refl
     beyond_inside m (views name parent form) i past = refl
@@ -111,7 +111,7 @@ module _ (n : ℕ) where
     beyond_part : (m : ℕ) (cs : Actions) → AreNumbered m cs → m + commands_in_part cs ≤ n → first_in_part n cs ≡ None
     beyond_part m no_actions i past = refl
     beyond_part m (action_then b rest) i past =
-        both_none (first_of n b) (first_in_part n rest) (beyond m b i.0 (omega (arith, past))) (beyond_part (m + commands_in b) rest i.1 (omega (arith, past)))
+        both_none (first_in_command n b) (first_in_part n rest) (beyond m b i.0 (omega (arith, past))) (beyond_part (m + commands_in b) rest i.1 (omega (arith, past)))
 
 -- the one that is held is found
 module _ (n : ℕ) (a : Action) where
@@ -122,23 +122,23 @@ module _ (n : ℕ) (a : Action) where
   in_second x y e f = ap (λ o. found_or o y) e ∙ f
 
   mutual
-    pub found : (m : ℕ) (b : Action) → IsNumbered m b → Holds b n a → first_of n b ≡ Some a
-    found m (action id place form) i (inl h) = taken n id (Some (action id place form)) (first_inside n form) (Some a) h.0 (ap (λ b. Some b) h.1)
+    pub found : (m : ℕ) (b : Action) → IsNumbered m b → HoldsCommand b n a → first_in_command n b ≡ Some a
+    found m (action id place form) i (inl h) = taken n id (Some (action id place form)) (first_in_form n form) (Some a) h.0 (ap (λ b. Some b) h.1)
     found m (action id place form) i (inr h) =
         let first : id ≡ m = i.0 in
         let inside : suc m ≤ n = (within_inside n a (suc m) form i.1 h).0 in
         let differs : id ≢ n = omega (arith, first, inside) in
-        skipped n id (Some (action id place form)) (first_inside n form) (Some a) differs (found_inside (suc m) form i.1 h)
+        skipped n id (Some (action id place form)) (first_in_form n form) (Some a) differs (found_inside (suc m) form i.1 h)
 
-    found_inside : (m : ℕ) (form : ActionForm) → IsNumberedInside m form → HoldsInside form n a → first_inside n form ≡ Some a
+    found_inside : (m : ℕ) (form : ActionForm) → IsNumberedInside m form → HoldsInside form n a → first_in_form n form ≡ Some a
     found_inside m (blocks body) i h = found_groups m body i h
-    found_inside m (decides test chosen other) i (inl h) = in_first (first_of n chosen) (first_in_other n other) (found m chosen i.0 h)
+    found_inside m (decides test chosen other) i (inl h) = in_first (first_in_command n chosen) (first_in_other n other) (found m chosen i.0 h)
     found_inside m (decides test chosen other) i (inr h) =
-        in_second (first_of n chosen) (first_in_other n other) (beyond n m chosen i.0 (within_other n a (m + commands_in chosen) other i.1 h).0) (found_other (m + commands_in chosen) other i.1 h)
+        in_second (first_in_command n chosen) (first_in_other n other) (beyond n m chosen i.0 (within_other n a (m + commands_in chosen) other i.1 h).0) (found_other (m + commands_in chosen) other i.1 h)
     found_inside m (repeats test body) i h = found m body i h
-    found_inside m (counts iterator declared low high factor body combine place) i (inl h) = in_first (first_of n body) (first_in_other n combine) (found m body i.0 h)
+    found_inside m (counts iterator declared low high factor body combine place) i (inl h) = in_first (first_in_command n body) (first_in_other n combine) (found m body i.0 h)
     found_inside m (counts iterator declared low high factor body combine place) i (inr h) =
-        in_second (first_of n body) (first_in_other n combine) (beyond n m body i.0 (within_other n a (m + commands_in body) combine i.1 h).0) (found_other (m + commands_in body) combine i.1 h)
+        in_second (first_in_command n body) (first_in_other n combine) (beyond n m body i.0 (within_other n a (m + commands_in body) combine i.1 h).0) (found_other (m + commands_in body) combine i.1 h)
     found_inside m (lets name declared value) i h = absurd h
     found_inside m (lets_memory name shape places value) i h = absurd h
     found_inside m (views name parent form) i h = absurd h
@@ -159,21 +159,21 @@ module _ (n : ℕ) (a : Action) where
 
     found_part : (m : ℕ) (cs : Actions) → AreNumbered m cs → HoldInPart cs n a → first_in_part n cs ≡ Some a
     found_part m no_actions i h = absurd h
-    found_part m (action_then b rest) i (inl h) = in_first (first_of n b) (first_in_part n rest) (found m b i.0 h)
+    found_part m (action_then b rest) i (inl h) = in_first (first_in_command n b) (first_in_part n rest) (found m b i.0 h)
     found_part m (action_then b rest) i (inr h) =
-        in_second (first_of n b) (first_in_part n rest) (beyond n m b i.0 (within_part n a (m + commands_in b) rest i.1 h).0) (found_part (m + commands_in b) rest i.1 h)
+        in_second (first_in_command n b) (first_in_part n rest) (beyond n m b i.0 (within_part n a (m + commands_in b) rest i.1 h).0) (found_part (m + commands_in b) rest i.1 h)
 
 -- a command that was found has the number, and one is found where a command has it
-pub is_found : (n : ℕ) (tree t : Tree) (r : Option (Bor Command)) (c : Bor Command) (a : Action) → r ≡ Some c → option_map (λ c. action_seen c.now) r ≡ first_of n (action_seen tree.body) → tree ≡ t
-    → (m : ℕ) × IsNumbered m (program_seen t).body → Holds (program_seen t).body n a → action_seen c.now ≡ a
+pub is_found : (n : ℕ) (tree t : Tree) (r : Option (Bor Command)) (c : Bor Command) (a : Action) → r ≡ Some c → option_map (λ c. action_seen c.now) r ≡ first_in_command n (action_seen tree.body) → tree ≡ t
+    → (m : ℕ) × IsNumbered m (program_seen t).body → HoldsCommand (program_seen t).body n a → action_seen c.now ≡ a
 is_found n tree t r c a is e same numbers h =
     let one : Some (action_seen c.now) ≡ Some a =
-    ap (λ o. option_map (λ c. action_seen c.now) o) (sym is) ∙ (e ∙ (ap (λ u. first_of n (action_seen u.body)) same ∙ found n a numbers.0 (program_seen t).body numbers.1 h)) in
+    ap (λ o. option_map (λ c. action_seen c.now) o) (sym is) ∙ (e ∙ (ap (λ u. first_in_command n (action_seen u.body)) same ∙ found n a numbers.0 (program_seen t).body numbers.1 h)) in
     (cc)
 
-pub none_found : (n : ℕ) (tree t : Tree) (r : Option (Bor Command)) → r ≡ None → option_map (λ c. action_seen c.now) r ≡ first_of n (action_seen tree.body) → tree ≡ t
+pub none_found : (n : ℕ) (tree t : Tree) (r : Option (Bor Command)) → r ≡ None → option_map (λ c. action_seen c.now) r ≡ first_in_command n (action_seen tree.body) → tree ≡ t
     → (m : ℕ) × IsNumbered m (program_seen t).body → HasCommand (program_seen t).body n → ⊥
 none_found n tree t r is e same numbers (a, h) =
     let one : None ≡ Some a =
-    ap (λ o. option_map (λ c. action_seen c.now) o) (sym is) ∙ (e ∙ (ap (λ u. first_of n (action_seen u.body)) same ∙ found n a numbers.0 (program_seen t).body numbers.1 h)) in
+    ap (λ o. option_map (λ c. action_seen c.now) o) (sym is) ∙ (e ∙ (ap (λ u. first_in_command n (action_seen u.body)) same ∙ found n a numbers.0 (program_seen t).body numbers.1 h)) in
     (cc)

@@ -16,11 +16,11 @@ use Rattle.dh_meaning.specs.Sites.{Around, nothing_around, in_arm, in_loop, loop
 use Rattle.dh_meaning.specs.Phases as source
 use Rattle.dh_meaning.specs.Phases.{Located, Phase, straight, turns, repeated, decided, of_list, one_straight, joined, folded, turn_count, located, phases, form_phases, other_phases, groups_phases, parts_phases}
 use Rattle.dh_phases.specs.Counted.{behind}
-use Rattle.dh_phases.specs.GatheredPhases.{Gathered, Header, Numbered, straight_phase, turns_phase, loop_phase, choice_phase, all_gathered, code_number, command_gathered, gathered_list, header_of, header_seen, numbered, phase_gathered, phases_gathered}
-use Rattle.dh_phases.specs.Gathering.{phases_in, phases_in_groups, phases_in_other, one_phase, are_straight, turn_phases, choice_phases, gathered, folded_phases}
+use Rattle.dh_phases.specs.GatheredPhases.{Gathered, Header, Numbered, straight_phase, turns_phase, loop_phase, choice_phase, all_gathered, code_number, command_gathered, gathered_list, header_of, header_seen, as_numbered, phase_gathered, phases_gathered}
+use Rattle.dh_phases.specs.Gathering.{phases_in, phases_in_groups, phases_in_other, one_phase, gathered_are_straight, gathered_turn_phases, gathered_choice_phases, gathered, folded_phases}
 use Rattle.dh_phases.proofs.PhasesMatched.{list_is}
 
-straight_is : (ps : List Phase) → are_straight (gathered_list ps) ≡ source.are_straight ps
+straight_is : (ps : List Phase) → gathered_are_straight (gathered_list ps) ≡ source.are_straight ps
 straight_is [] = refl
 straight_is (straight cs ∷ []) = refl
 straight_is (turns loop count body ∷ []) = refl
@@ -29,7 +29,7 @@ straight_is (decided choice chosen other ∷ []) = refl
 straight_is (p ∷ q ∷ ps) = refl
 
 -- a `for`
-turns_gathered : (loop : Located) (count : ℕ) (body : List Phase) → turn_phases (command_gathered loop) (header_of (action_form_of loop.command)) count (gathered_list body) ≡ gathered_list (source.turn_phases loop count body)
+turns_gathered : (loop : Located) (count : ℕ) (body : List Phase) → gathered_turn_phases (command_gathered loop) (header_of (action_form_of loop.command)) count (gathered_list body) ≡ gathered_list (source.turn_phases loop count body)
 turns_gathered loop count [] = refl
 turns_gathered loop count (p ∷ ps) = by (count == 0)
   where
@@ -38,9 +38,9 @@ turns_gathered loop count (p ∷ ps) = by (count == 0)
     by false = ap (λ l. turns_phase (command_gathered loop) (header_of (action_form_of loop.command)) count l ∷ []) (sym (list_is (p ∷ ps)))
 
 -- an `if`
-choice_gathered : (choice : Located) (chosen other : List Phase) → choice_phases (command_gathered choice) (test_of (action_form_of choice.command)) (gathered_list chosen) (gathered_list other) ≡ gathered_list (source.choice_phases choice chosen other)
+choice_gathered : (choice : Located) (chosen other : List Phase) → gathered_choice_phases (command_gathered choice) (test_of (action_form_of choice.command)) (gathered_list chosen) (gathered_list other) ≡ gathered_list (source.choice_phases choice chosen other)
 choice_gathered choice chosen other =
-    ap (λ b. after (b && are_straight (gathered_list other))) (straight_is chosen)
+    ap (λ b. after (b && gathered_are_straight (gathered_list other))) (straight_is chosen)
     ∙ (ap (λ b. after (source.are_straight chosen && b)) (straight_is other) ∙ by (source.are_straight chosen && source.are_straight other))
   where
     test : Option Term
@@ -120,12 +120,12 @@ settled given made is r n = is r n ∙ (ap made (sym (code_once n)) ∙ sym (is 
 
 -- a straight command
 alone_by : (a : Action) → Everywhere (λ r n. source.one_command (located r n a)) (λ m. gathered_list (source.one_command (located nothing_around m a)))
-alone_by a = settled (λ r n. source.one_command (located r n a)) (λ m. straight_phase (numbered a m ∷ []) ∷ []) (λ r n. refl)
+alone_by a = settled (λ r n. source.one_command (located r n a)) (λ m. straight_phase (as_numbered a m ∷ []) ∷ []) (λ r n. refl)
 
 -- Of an `if`, a `while` and a `for`, from what is so of their blocks.
 abbrev choice_at : (id : ℕ) → Place → Term → Action → MaybeAction → (first : ℕ) → List Gathered
 choice_at id place test chosen other m =
-    choice_phases (numbered (action id place (decides test chosen other)) m) (Some test) (phases_in (behind m (term_accesses test)) chosen) (phases_in_other (behind (behind m (term_accesses test)) (accesses_of chosen)) other)
+    gathered_choice_phases (as_numbered (action id place (decides test chosen other)) m) (Some test) (phases_in (behind m (term_accesses test)) chosen) (phases_in_other (behind (behind m (term_accesses test)) (accesses_of chosen)) other)
 
 choice_by : (id : ℕ) (place : Place) (test : Term) (chosen : Action) (other : MaybeAction)
     → Everywhere (λ r n. phases r n chosen) (λ m. phases_in m chosen) → Everywhere (λ r n. other_phases r n other) (λ m. phases_in_other m other)
@@ -133,17 +133,17 @@ choice_by : (id : ℕ) (place : Place) (test : Term) (chosen : Action) (other : 
 choice_by id place test chosen other c o r n =
     sym (choice_gathered (located r n (action id place (decides test chosen other))) (phases (in_arm r id true) (n + term_accesses test) chosen)
     (other_phases (in_arm r id false) (n + term_accesses test + accesses_of chosen) other))
-    ∙ (ap (λ ps. choice_phases here (Some test) ps (gathered_list (other_phases (in_arm r id false) (n + term_accesses test + accesses_of chosen) other)))
+    ∙ (ap (λ ps. gathered_choice_phases here (Some test) ps (gathered_list (other_phases (in_arm r id false) (n + term_accesses test + accesses_of chosen) other)))
     (c (in_arm r id true) (n + term_accesses test) ∙ ap (λ k. phases_in k chosen) (code_behind n (term_accesses test)))
-    ∙ ap (λ ps. choice_phases here (Some test) (phases_in (behind (code_number n) (term_accesses test)) chosen) ps)
+    ∙ ap (λ ps. gathered_choice_phases here (Some test) (phases_in (behind (code_number n) (term_accesses test)) chosen) ps)
     (o (in_arm r id false) (n + term_accesses test + accesses_of chosen)
     ∙ ap (λ k. phases_in_other k other) (code_behind (n + term_accesses test) (accesses_of chosen) ∙ ap (λ k. behind k (accesses_of chosen)) (code_behind n (term_accesses test)))))
   where
     here : Numbered
-    here = numbered (action id place (decides test chosen other)) (code_number n)
+    here = as_numbered (action id place (decides test chosen other)) (code_number n)
 
 abbrev loop_at : (id : ℕ) → Place → Term → Action → (first : ℕ) → List Gathered
-loop_at id place test body m = loop_phase (numbered (action id place (repeats test body)) m) (Some test) (all_gathered (phases_in (behind m (term_accesses test)) body)) ∷ []
+loop_at id place test body m = loop_phase (as_numbered (action id place (repeats test body)) m) (Some test) (all_gathered (phases_in (behind m (term_accesses test)) body)) ∷ []
 
 loop_by : (id : ℕ) (place : Place) (test : Term) (body : Action) → Everywhere (λ r n. phases r n body) (λ m. phases_in m body)
     → Everywhere (λ r n. form_phases r n id place (repeats test body)) (loop_at id place test body)
@@ -152,7 +152,7 @@ loop_by id place test body b r n =
     ∙ ap (λ ps. loop_phase here (Some test) (all_gathered ps) ∷ []) (b r (n + term_accesses test) ∙ ap (λ k. phases_in k body) (code_behind n (term_accesses test)))
   where
     here : Numbered
-    here = numbered (action id place (repeats test body)) (code_number n)
+    here = as_numbered (action id place (repeats test body)) (code_number n)
 
 abbrev looped : (iterator : Ref) → (low factor : ℕ) → Option Header
 looped iterator low factor = Some (record { iterator = iterator; low = low; factor = factor })
@@ -163,7 +163,7 @@ module _ (id : ℕ) (place : Place) (iterator : Ref) (declared : Option Kind) (l
 
   abbrev turns_at : (first : ℕ) → List Gathered
   turns_at m =
-      turn_phases (numbered (action id place counting) m) (looped iterator low.value factor.value) (turn_count low.value high.value factor.value)
+      gathered_turn_phases (as_numbered (action id place counting) m) (looped iterator low.value factor.value) (turn_count low.value high.value factor.value)
       (folded_phases (phases_in m body) (phases_in_other (behind m (accesses_of body)) combine))
 
   turns_by : Everywhere (λ r n. phases r n body) (λ m. phases_in m body) → Everywhere (λ r n. other_phases r n combine) (λ m. phases_in_other m combine)
@@ -172,7 +172,7 @@ module _ (id : ℕ) (place : Place) (iterator : Ref) (declared : Option Kind) (l
       let inside : Around = in_loop r (loop_of iterator low high factor) in
       sym (turns_gathered (located r n (action id place counting)) (turn_count low.value high.value factor.value)
       (folded (phases inside n body) (other_phases inside (n + accesses_of body) combine)))
-      ∙ ap (λ ps. turn_phases (numbered (action id place counting) (code_number n)) (looped iterator low.value factor.value) (turn_count low.value high.value factor.value) ps)
+      ∙ ap (λ ps. gathered_turn_phases (as_numbered (action id place counting) (code_number n)) (looped iterator low.value factor.value) (turn_count low.value high.value factor.value) ps)
       (folded_is (phases inside n body) (other_phases inside (n + accesses_of body) combine)
       ∙ (ap (λ ps. folded_phases ps (gathered_list (other_phases inside (n + accesses_of body) combine))) (b inside n)
       ∙ ap (λ ps. folded_phases (phases_in (code_number n) body) ps) (o inside (n + accesses_of body) ∙ ap (λ k. phases_in_other k combine) (code_behind n (accesses_of body)))))
@@ -247,5 +247,5 @@ module _ (first : ℕ) (small : code_number first ≡ first) where
   pub groups_are : (part : Actions) (rest : Groups) → phases_in_groups first (group_then part rest) ≡ groups_at part rest first
   groups_are part rest = groups_by part rest (anywhere_part part) (anywhere_groups rest) nothing_around first ∙ ap (groups_at part rest) small
 
-  pub alone_is : (a : Action) → gathered_list (source.one_command (located nothing_around first a)) ≡ straight_phase (numbered a first ∷ []) ∷ []
-  alone_is a = ap (λ n. straight_phase (numbered a n ∷ []) ∷ []) small
+  pub alone_is : (a : Action) → gathered_list (source.one_command (located nothing_around first a)) ≡ straight_phase (as_numbered a first ∷ []) ∷ []
+  alone_is a = ap (λ n. straight_phase (as_numbered a n ∷ []) ∷ []) small

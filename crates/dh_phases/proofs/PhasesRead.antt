@@ -19,8 +19,8 @@ use Rattle.dh_meaning.specs.Sites.{nothing_around}
 use Rattle.dh_phases.specs.Counted.{behind}
 use Rattle.dh_phases.specs.declared.gathering.NumberedCommand.{NumberedCommand}
 use Rattle.dh_phases.specs.declared.gathering.Phase.{Phase}
-use Rattle.dh_phases.specs.GatheredPhases.{Gathered, Numbered, loop_phase, all_gathered, code_number, gathered_list, header_seen, numbered, numbered_seen, phase_seen, phases_seen}
-use Rattle.dh_phases.specs.Gathering.{phases_in, phases_in_groups, phases_in_other, one_command, one_phase, turn_phases, view_phases, choice_phases, straight_commands, done_by, current_after, gathered, folded_last, folded_phases, IsAlone}
+use Rattle.dh_phases.specs.GatheredPhases.{Gathered, Numbered, loop_phase, all_gathered, code_number, gathered_list, header_seen, as_numbered, numbered_seen, phase_seen, phases_seen}
+use Rattle.dh_phases.specs.Gathering.{phases_in, phases_in_groups, phases_in_other, lone_phase, one_phase, gathered_turn_phases, view_phases, gathered_choice_phases, straight_commands, done_by, current_after, gathered, folded_last, folded_phases, IsPhaseAlone}
 use Rattle.dh_phases.proofs.CountedParts.{Left, behind_none, behind_twice}
 use Rattle.dh_phases.proofs.PhasesAnywhere.{alone_is, parts_in, choice_is, code_small, loop_is, turns_are, groups_are}
 
@@ -84,10 +84,10 @@ part_turn cs i c rest done done' current current' next next' read all within is 
 
 -- and where it joins those that stand open
 pub part_joined : (cs : List Command) (i : ℕ) (c : Command) (rest : List (Vec Command Global)) (done : List Gathered) (current current' : List Numbered) (next next' : ℕ) (all : List Gathered) → i < length cs → c ≡ get_or cs i c
-    → phases_in next (action_seen c) ≡ one_command (numbered (action_seen c) next) → next' ≡ behind next (accesses_of (action_seen c)) → current' ≡ current ++ numbered (action_seen c) next ∷ []
+    → phases_in next (action_seen c) ≡ lone_phase (as_numbered (action_seen c) next) → next' ≡ behind next (accesses_of (action_seen c)) → current' ≡ current ++ as_numbered (action_seen c) next ∷ []
     → all_from done current next (drop i cs) rest ≡ all → all_from done current' next' (drop (i + 1) cs) rest ≡ all
 part_joined cs i c rest done current current' next next' all within is single told left before =
-    part_turn cs i c rest done done current current' next next' (one_command (numbered (action_seen c) next)) all within is (sym single) told (sym (append-nil done)) left before
+    part_turn cs i c rest done done current current' next next' (lone_phase (as_numbered (action_seen c) next)) all within is (sym single) told (sym (append-nil done)) left before
 
 -- at the end of a part the commands that stand open end
 pub part_end : (cs : List Command) (i : ℕ) (rest : List (Vec Command Global)) (done done' all : List Gathered) (current : List Numbered) (next : ℕ) → length cs ≤ i → next ≤ 2 ^ 32 - 1 → done' ≡ done ++ one_phase current
@@ -117,59 +117,59 @@ left_end ps i next first all cs j over h =
 -- What a form of the code has is what its plain form has: of an `if`, a `while` and a `for`.
 module _ (c : Command) (plain : ActionForm) (seen : action_form_seen c.form ≡ plain) (first : ℕ) where
   abbrev here : ActionForm → Numbered
-  here form = numbered (action c.id c.place form) first
+  here form = as_numbered (action c.id c.place form) first
 
   -- read of the command as it is seen, where so read of the plain form is what that has
   by_form : (made : Numbered → List Gathered) (read : List Gathered) → made (here plain) ≡ phases_in first (action c.id c.place plain) → read ≡ made (here (action_form_seen c.form)) → read ≡ phases_in first (action_seen c)
   by_form made read is given = given ∙ subst (λ (f : ActionForm). made (here f) ≡ phases_in first (action c.id c.place f)) (sym seen) is
 
 -- a straight command is a phase alone
-pub alone_read : (c : Command) (form : ActionForm) → action_form_seen c.form ≡ form → ((first : ℕ) → phases_in first (action c.id c.place form) ≡ gathered_list (source.one_command (located nothing_around first (action c.id c.place form)))) → IsAlone c
+pub alone_read : (c : Command) (form : ActionForm) → action_form_seen c.form ≡ form → ((first : ℕ) → phases_in first (action c.id c.place form) ≡ gathered_list (source.one_command (located nothing_around first (action c.id c.place form)))) → IsPhaseAlone c
 alone_read c form seen is first small =
-    subst (λ (f : ActionForm). phases_in first (action c.id c.place f) ≡ one_command (numbered (action c.id c.place f) first)) (sym seen) (is first ∙ alone_is first (code_small first small) (action c.id c.place form))
+    subst (λ (f : ActionForm). phases_in first (action c.id c.place f) ≡ lone_phase (as_numbered (action c.id c.place f) first)) (sym seen) (is first ∙ alone_is first (code_small first small) (action c.id c.place form))
 
 -- a view, which is a command where it moves
 pub view_read : (c : Command) (name parent : Ref) (form : ViewPlan) (first : ℕ) (read : List Gathered) → action_form_seen c.form ≡ views name parent form → first ≤ 2 ^ 32 - 1
-    → read ≡ view_phases (moves form) (numbered (action_seen c) first) → read ≡ phases_in first (action_seen c)
+    → read ≡ view_phases (moves form) (as_numbered (action_seen c) first) → read ≡ phases_in first (action_seen c)
 view_read c name parent form first read seen small g = by_form c (views name parent form) seen first (λ x. view_phases (moves form) x) read (by (moves form)) g
   where
     viewed : Action
     viewed = action c.id c.place (views name parent form)
 
-    by : (b : Bool) → view_phases b (numbered viewed first) ≡ gathered_list (if b then source.one_command (located nothing_around first viewed) else [])
+    by : (b : Bool) → view_phases b (as_numbered viewed first) ≡ gathered_list (if b then source.one_command (located nothing_around first viewed) else [])
     by true = sym (alone_is first (code_small first small) viewed)
     by false = refl
 
 pub if_read : (c : Command) (test : Term) (chosen : Action) (other : MaybeAction) (first next second : ℕ) (chosen_read other_read read : List Gathered) → action_form_seen c.form ≡ decides test chosen other → first ≤ 2 ^ 32 - 1
     → next ≡ behind first (term_accesses test) → second ≡ behind next (accesses_of chosen) → chosen_read ≡ phases_in next chosen → other_read ≡ phases_in_other second other
-    → read ≡ choice_phases (numbered (action_seen c) first) (Some test) chosen_read other_read → read ≡ phases_in first (action_seen c)
+    → read ≡ gathered_choice_phases (as_numbered (action_seen c) first) (Some test) chosen_read other_read → read ≡ phases_in first (action_seen c)
 if_read c test chosen other first next second chosen_read other_read read seen small n s e f g =
-    by_form c (decides test chosen other) seen first (λ x. choice_phases x (Some test) chosen_read other_read) read
-    (ap (λ ps. choice_phases (numbered (action c.id c.place (decides test chosen other)) first) (Some test) ps other_read) (e ∙ ap (λ k. phases_in k chosen) n)
-    ∙ (ap (λ ps. choice_phases (numbered (action c.id c.place (decides test chosen other)) first) (Some test) (phases_in (behind first (term_accesses test)) chosen) ps) (f ∙ ap (λ k. phases_in_other k other) (s ∙ ap (λ k. behind k (accesses_of chosen)) n))
+    by_form c (decides test chosen other) seen first (λ x. gathered_choice_phases x (Some test) chosen_read other_read) read
+    (ap (λ ps. gathered_choice_phases (as_numbered (action c.id c.place (decides test chosen other)) first) (Some test) ps other_read) (e ∙ ap (λ k. phases_in k chosen) n)
+    ∙ (ap (λ ps. gathered_choice_phases (as_numbered (action c.id c.place (decides test chosen other)) first) (Some test) (phases_in (behind first (term_accesses test)) chosen) ps) (f ∙ ap (λ k. phases_in_other k other) (s ∙ ap (λ k. behind k (accesses_of chosen)) n))
     ∙ sym (choice_is first (code_small first small) c.id c.place test chosen other)))
     g
 
 pub while_read : (c : Command) (test : Term) (body : Action) (first next : ℕ) (body_read read : List Gathered) → action_form_seen c.form ≡ repeats test body → first ≤ 2 ^ 32 - 1 → next ≡ behind first (term_accesses test)
-    → body_read ≡ phases_in next body → read ≡ loop_phase (numbered (action_seen c) first) (Some test) (all_gathered body_read) ∷ [] → read ≡ phases_in first (action_seen c)
+    → body_read ≡ phases_in next body → read ≡ loop_phase (as_numbered (action_seen c) first) (Some test) (all_gathered body_read) ∷ [] → read ≡ phases_in first (action_seen c)
 while_read c test body first next body_read read seen small n e g =
     by_form c (repeats test body) seen first (λ x. loop_phase x (Some test) (all_gathered body_read) ∷ []) read
-    (ap (λ ps. loop_phase (numbered (action c.id c.place (repeats test body)) first) (Some test) (all_gathered ps) ∷ []) (e ∙ ap (λ k. phases_in k body) n)
+    (ap (λ ps. loop_phase (as_numbered (action c.id c.place (repeats test body)) first) (Some test) (all_gathered ps) ∷ []) (e ∙ ap (λ k. phases_in k body) n)
     ∙ sym (loop_is first (code_small first small) c.id c.place test body))
     g
 
 pub for_read : (c : Command) (h : LoopHeader) (body : Action) (combine : MaybeAction) (count first next : ℕ) (body_read fold_read turn_read read : List Gathered) → action_form_seen c.form ≡ counts_seen h body combine → first ≤ 2 ^ 32 - 1
     → count ≡ turn_count h.low h.high h.factor → next ≡ behind first (accesses_of body) → body_read ≡ phases_in first body → fold_read ≡ phases_in_other next combine → turn_read ≡ folded_phases body_read fold_read
-    → read ≡ turn_phases (numbered (action_seen c) first) (Some (header_seen h)) count turn_read → read ≡ phases_in first (action_seen c)
+    → read ≡ gathered_turn_phases (as_numbered (action_seen c) first) (Some (header_seen h)) count turn_read → read ≡ phases_in first (action_seen c)
 for_read c h body combine count first next body_read fold_read turn_read read seen small n m e f t g =
-    by_form c (counts_seen h body combine) seen first (λ x. turn_phases x (Some (header_seen h)) count turn_read) read
-    (ap (λ k. turn_phases at (Some (header_seen h)) k turn_read) n
-    ∙ (ap (λ ps. turn_phases at (Some (header_seen h)) (turn_count h.low h.high h.factor) ps) (t ∙ (ap (λ ps. folded_phases ps fold_read) e ∙ ap (λ ps. folded_phases (phases_in first body) ps) (f ∙ ap (λ k. phases_in_other k combine) m)))
+    by_form c (counts_seen h body combine) seen first (λ x. gathered_turn_phases x (Some (header_seen h)) count turn_read) read
+    (ap (λ k. gathered_turn_phases at (Some (header_seen h)) k turn_read) n
+    ∙ (ap (λ ps. gathered_turn_phases at (Some (header_seen h)) (turn_count h.low h.high h.factor) ps) (t ∙ (ap (λ ps. folded_phases ps fold_read) e ∙ ap (λ ps. folded_phases (phases_in first body) ps) (f ∙ ap (λ k. phases_in_other k combine) m)))
     ∙ sym (turns_are first (code_small first small) c.id c.place h body combine)))
     g
   where
     at : Numbered
-    at = numbered (action c.id c.place (counts_seen h body combine)) first
+    at = as_numbered (action c.id c.place (counts_seen h body combine)) first
 
 -- `combine` behind a body, by the last phase of that
 last_folded : (ps : List Gathered) (last : Gathered) (fold : List Gathered) → folded_phases (ps ++ last ∷ []) fold ≡ ps ++ folded_last last (straight_commands last) fold

@@ -13,16 +13,16 @@ use Rattle.dh_phases.specs.declared.gathering.NumberedCommand.{NumberedCommand}
 use Rattle.dh_phases.specs.declared.gathering.Phase.{Phase}
 use Rattle.dh_phases.specs.declared.gathering.Phase.TheVariants.{Straight, Turns, Loop, Choice}
 use Rattle.dh_phases.specs.declared.gathering.Phase.TheBlock.{Row_of-Phase, end_of-Phase, more_of-Phase, items-the_row-Phase, hidden-the_row-Phase-0, items_hidden-the_row-Phase-0}
-use Rattle.dh_phases.specs.GatheredPhases.{Gathered, Numbered, straight_phase, turns_phase, loop_phase, choice_phase, gathered_then, all_gathered, header_seen, numbered_seen, phase_seen, row_seen, phases_seen}
-use Rattle.dh_phases.specs.Gathering.{one_phase, turn_phases}
+use Rattle.dh_phases.specs.GatheredPhases.{Gathered, Numbered, straight_phase, turns_phase, loop_phase, choice_phase, gathered_then, all_gathered, header_seen, numbered_seen, phase_seen, phase_row_seen, phases_seen}
+use Rattle.dh_phases.specs.Gathering.{one_phase, gathered_turn_phases}
 use mathlib.Core.Former.{Count}
 
-row_is : (n : Count) (k : Row_of-Phase n) → row_seen k ≡ all_gathered (phases_seen (items-the_row-Phase n k))
+row_is : (n : Count) (k : Row_of-Phase n) → phase_row_seen k ≡ all_gathered (phases_seen (items-the_row-Phase n k))
 unfolding phase_seen
 row_is _ end_of-Phase = refl
 row_is _ (more_of-Phase {n = n} p rest) = ap (λ s. gathered_then (phase_seen p) s) (row_is n rest)
 
-vec_is : (v : Vec Phase Global) → row_seen (hidden-the_row-Phase-0 v) ≡ all_gathered (phases_seen v.items)
+vec_is : (v : Vec Phase Global) → phase_row_seen (hidden-the_row-Phase-0 v) ≡ all_gathered (phases_seen v.items)
 vec_is v = row_is _ (hidden-the_row-Phase-0 v) ∙ ap (λ l. all_gathered (phases_seen l)) (items_hidden-the_row-Phase-0 v)
 
 pub straight_is : (commands : Vec NumberedCommand Global) → phase_seen (Straight commands) ≡ straight_phase (map numbered_seen commands.items)
@@ -42,7 +42,7 @@ pub choice_is : (command : NumberedCommand) (test : Bor Expr) (chosen other : Ve
     → phase_seen (Choice command test chosen other) ≡ choice_phase (numbered_seen command) (Some (term_seen test.now)) (all_gathered (phases_seen chosen.items)) (all_gathered (phases_seen other.items))
 unfolding phase_seen
 choice_is command test chosen other =
-    ap (λ s. choice_phase (numbered_seen command) (Some (term_seen test.now)) s (row_seen (hidden-the_row-Phase-0 other))) (vec_is chosen)
+    ap (λ s. choice_phase (numbered_seen command) (Some (term_seen test.now)) s (phase_row_seen (hidden-the_row-Phase-0 other))) (vec_is chosen)
     ∙ ap (λ s. choice_phase (numbered_seen command) (Some (term_seen test.now)) (all_gathered (phases_seen chosen.items)) s) (vec_is other)
 
 -- straight commands are done behind phases
@@ -57,7 +57,7 @@ module _ (loop : Numbered) (header : LoopHeader) (count : ℕ) where
   abbrev turned : List Phase → Gathered
   turned body = turns_phase loop (Some (header_seen header)) count (all_gathered (phases_seen body))
 
-  counted : (body : List Phase) (len : ℕ) (empty : Bool) → len ≡ length body → empty ≡ (len == 0) → empty ≡ false → count ≢ 0 → turned body ∷ [] ≡ turn_phases loop (Some (header_seen header)) count (phases_seen body)
+  counted : (body : List Phase) (len : ℕ) (empty : Bool) → len ≡ length body → empty ≡ (len == 0) → empty ≡ false → count ≢ 0 → turned body ∷ [] ≡ gathered_turn_phases loop (Some (header_seen header)) count (phases_seen body)
   counted [] len empty l b t some = absurd (grind (arith, nat_tests, l, b, t))
   counted (p ∷ ps) len empty l b t some = by (count == 0) refl
     where
@@ -68,7 +68,7 @@ module _ (loop : Numbered) (header : LoopHeader) (count : ℕ) where
       by false f = refl
 
 pub turns_more : (phases : List Phase) (command : NumberedCommand) (header : Bor LoopHeader) (count : ℕ) (body : Vec Phase Global) (len : ℕ) (empty : Bool) → phases ≡ Turns command header count body ∷ [] → len ≡ length body.items → empty ≡ (len == 0) → empty ≡ false → count ≢ 0
-    → phases_seen phases ≡ turn_phases (numbered_seen command) (Some (header_seen header.now)) count (phases_seen body.items)
+    → phases_seen phases ≡ gathered_turn_phases (numbered_seen command) (Some (header_seen header.now)) count (phases_seen body.items)
 turns_more phases command header count body len empty e l b t some =
     ap phases_seen e ∙ (ap (λ p. p ∷ []) (turns_is command header count body) ∙ counted (numbered_seen command) header.now count body.items len empty l b t some)
 

@@ -21,8 +21,8 @@ pub record Numbered : Type 0 where
   pub command : Action
   pub first : ℕ
 
-abbrev pub numbered : Action → (first : ℕ) → Numbered
-numbered a first = record { command = a; first = first }
+abbrev pub as_numbered : Action → (first : ℕ) → Numbered
+as_numbered a first = record { command = a; first = first }
 
 -- what is known of a loop before its body is looked at
 pub record Header : Type 0 where
@@ -68,7 +68,7 @@ abbrev pub code_number : ℕ → ℕ
 code_number n = min n (2 ^ 32 - 1)
 
 abbrev pub command_gathered : source.Located → Numbered
-command_gathered c = numbered c.command (code_number c.first)
+command_gathered c = as_numbered c.command (code_number c.first)
 
 abbrev mutual
   pub phase_gathered : source.Phase → Gathered
@@ -87,7 +87,7 @@ gathered_list ps = map phase_gathered ps
 
 -- What clauses see of the code's phases.
 abbrev pub numbered_seen : NumberedCommand → Numbered
-numbered_seen c = numbered (action_seen c.command.now) c.first
+numbered_seen c = as_numbered (action_seen c.command.now) c.first
 
 abbrev pub header_seen : LoopHeader → Header
 header_seen h = record { iterator = h.iterator; low = h.low; factor = h.factor }
@@ -95,13 +95,13 @@ header_seen h = record { iterator = h.iterator; low = h.low; factor = h.factor }
 unfoldable mutual
   pub phase_seen : Phase → Gathered
   phase_seen (Straight commands) = straight_phase (map numbered_seen commands.items)
-  phase_seen (Turns' command header count shape body) = turns_phase (numbered_seen command) (Some (header_seen header.now)) count (row_seen body)
-  phase_seen (Loop' command test shape body) = loop_phase (numbered_seen command) (Some (term_seen test.now)) (row_seen body)
-  phase_seen (Choice' command test shape chosen shape' other) = choice_phase (numbered_seen command) (Some (term_seen test.now)) (row_seen chosen) (row_seen other)
+  phase_seen (Turns' command header count shape body) = turns_phase (numbered_seen command) (Some (header_seen header.now)) count (phase_row_seen body)
+  phase_seen (Loop' command test shape body) = loop_phase (numbered_seen command) (Some (term_seen test.now)) (phase_row_seen body)
+  phase_seen (Choice' command test shape chosen shape' other) = choice_phase (numbered_seen command) (Some (term_seen test.now)) (phase_row_seen chosen) (phase_row_seen other)
 
-  pub row_seen : {m : _} → Row_of-Phase m → AllGathered
-  row_seen end_of-Phase = none_gathered
-  row_seen (more_of-Phase p rest) = gathered_then (phase_seen p) (row_seen rest)
+  pub phase_row_seen : {m : _} → Row_of-Phase m → AllGathered
+  phase_row_seen end_of-Phase = none_gathered
+  phase_row_seen (more_of-Phase p rest) = gathered_then (phase_seen p) (phase_row_seen rest)
 
 abbrev pub phases_seen : List Phase → List Gathered
 phases_seen ps = map phase_seen ps

@@ -11,7 +11,7 @@ use Rattle.dh_meaning.specs.Sites.{nothing_around}
 use Rattle.dh_meaning.specs.Phases.{phases, groups_phases, other_phases}
 use Rattle.dh_phases.specs.declared.gathering.NumberedCommand.{NumberedCommand}
 use Rattle.dh_phases.specs.declared.gathering.Phase.{Phase}
-use Rattle.dh_phases.specs.GatheredPhases.{Gathered, Header, Numbered, straight_phase, turns_phase, loop_phase, choice_phase, all_gathered, gathered_list, numbered, numbered_seen, phase_list}
+use Rattle.dh_phases.specs.GatheredPhases.{Gathered, Header, Numbered, straight_phase, turns_phase, loop_phase, choice_phase, all_gathered, gathered_list, as_numbered, numbered_seen, phase_list}
 
 -- The phases of a command, of those of parts and of a block that may lack, whose accesses are numbered from `first` on.
 -- What stands round them does not matter: nothing does here.
@@ -29,17 +29,17 @@ abbrev pub one_phase : List Numbered → List Gathered
 one_phase [] = []
 one_phase (c ∷ cs) = straight_phase (c ∷ cs) ∷ []
 
-abbrev pub one_command : Numbered → List Gathered
-one_command c = straight_phase (c ∷ []) ∷ []
+abbrev pub lone_phase : Numbered → List Gathered
+lone_phase c = straight_phase (c ∷ []) ∷ []
 
 -- that of a view, which is a command where it moves
 abbrev pub view_phases : (moves : Bool) → Numbered → List Gathered
-view_phases true c = one_command c
+view_phases true c = lone_phase c
 view_phases false c = []
 
 -- of a view of this form, a command of the code
 abbrev pub viewed_phases : ViewForm → Command → (first : ℕ) → List Gathered
-viewed_phases form c first = view_phases (moves (view_plan form)) (numbered (action_seen c) first)
+viewed_phases form c first = view_phases (moves (view_plan form)) (as_numbered (action_seen c) first)
 
 -- the commands of a straight phase
 abbrev pub straight_commands : Gathered → Option (List Numbered)
@@ -54,16 +54,16 @@ straight_part [] = Some []
 straight_part (p ∷ []) = straight_commands p
 straight_part (p ∷ q ∷ ps) = None
 
-abbrev pub are_straight : List Gathered → Bool
-are_straight ps = is_some (straight_part ps)
+abbrev pub gathered_are_straight : List Gathered → Bool
+gathered_are_straight ps = is_some (straight_part ps)
 
-abbrev pub turn_phases : Numbered → Option Header → (count : ℕ) → (turn : List Gathered) → List Gathered
-turn_phases loop header count [] = []
-turn_phases loop header count (p ∷ ps) = if count == 0 then [] else turns_phase loop header count (all_gathered (p ∷ ps)) ∷ []
+abbrev pub gathered_turn_phases : Numbered → Option Header → (count : ℕ) → (turn : List Gathered) → List Gathered
+gathered_turn_phases loop header count [] = []
+gathered_turn_phases loop header count (p ∷ ps) = if count == 0 then [] else turns_phase loop header count (all_gathered (p ∷ ps)) ∷ []
 
-abbrev pub choice_phases : Numbered → Option Term → (chosen other : List Gathered) → List Gathered
-choice_phases choice test chosen other =
-    if are_straight chosen && are_straight other then one_command choice else choice_phase choice test (all_gathered chosen) (all_gathered other) ∷ []
+abbrev pub gathered_choice_phases : Numbered → Option Term → (chosen other : List Gathered) → List Gathered
+gathered_choice_phases choice test chosen other =
+    if gathered_are_straight chosen && gathered_are_straight other then lone_phase choice else choice_phase choice test (all_gathered chosen) (all_gathered other) ∷ []
 
 -- The phases that are done when a command with these phases comes behind straight commands that stand
 -- open, and the commands that then stand open: straight commands join those, other phases end them.
@@ -113,5 +113,5 @@ abbrev pub turn_of : (body fold : Vec Phase Global) → List Gathered
 turn_of body fold = folded_phases (phase_list body) (phase_list fold)
 
 -- a command is a phase alone, wherever its accesses begin
-abbrev pub IsAlone : Command → Type 0
-IsAlone c = (first : ℕ) → first ≤ 2 ^ 32 - 1 → phases_in first (action_seen c) ≡ one_command (numbered (action_seen c) first)
+abbrev pub IsPhaseAlone : Command → Type 0
+IsPhaseAlone c = (first : ℕ) → first ≤ 2 ^ 32 - 1 → phases_in first (action_seen c) ≡ lone_phase (as_numbered (action_seen c) first)

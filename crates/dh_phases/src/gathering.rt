@@ -4,9 +4,9 @@ ghost use Rattle.std.specs.Prelude.{◌≡◌, ◌∷◌, ◌++◌, [], true, So
 ghost use Rattle.dh_tree.specs.Seen.{action_seen, all_parts_seen, maybe_block_seen, term_seen};
 ghost use Rattle.dh_meaning.specs.AccessNumbers.{accesses_of, groups_accesses, other_accesses};
 ghost use Rattle.dh_phases.specs.Counted.{behind};
-ghost use Rattle.dh_phases.specs.GatheredPhases.{loop_phase, all_gathered, numbered, numbered_seen, header_seen, phase_seen, phases_seen, phase_list, GathersPhases, GivesPhases, AddsPhases};
+ghost use Rattle.dh_phases.specs.GatheredPhases.{loop_phase, all_gathered, as_numbered, numbered_seen, header_seen, phase_seen, phases_seen, phase_list, GathersPhases, GivesPhases, AddsPhases};
 ghost use Rattle.dh_phases.specs.Gathering as walk;
-ghost use Rattle.dh_phases.specs.Gathering.{phases_in, phases_in_other, phases_in_groups, one_phase, turn_phases, choice_phases, command_list, done_behind, open_behind, turn_of, IsAlone};
+ghost use Rattle.dh_phases.specs.Gathering.{phases_in, phases_in_other, phases_in_groups, one_phase, gathered_turn_phases, gathered_choice_phases, command_list, done_behind, open_behind, turn_of, IsPhaseAlone};
 
 use crate::counting::{behind_command, behind_term};
 use dh_base::NoMemory;
@@ -78,7 +78,7 @@ fn alone<'a>(alloc: Global, phase: Phase<'a>) -> Result<Vec<Phase<'a>>, NoMemory
 /// The phase of a straight command alone.
 #[tactic(auto, using(crate::proofs::SeenPhases::phases_are))]
 fn one_command<'a>(alloc: Global, command: NumberedCommand<'a>) -> Result<Vec<Phase<'a>>, NoMemory>
-    ensures { GivesPhases result (walk.one_command (numbered_seen command.entry)) }
+    ensures { GivesPhases result (walk.lone_phase (numbered_seen command.entry)) }
 {
     let mut commands = Vec::new(alloc);
     commands.push(command)?;
@@ -102,7 +102,7 @@ fn straight_commands<'a, 'b>(phase: &'b Phase<'a>) -> Option<&'b [NumberedComman
 /// Whether there is no phase, or one of straight commands alone.
 #[tactic(auto, using(crate::proofs::SeenPhases::phases_are))]
 fn are_straight(phases: &[Phase<'_>]) -> bool
-    ensures { result ≡ walk.are_straight (phases_seen phases.now) }
+    ensures { result ≡ walk.gathered_are_straight (phases_seen phases.now) }
 {
     match phases {
         [] => true,
@@ -120,7 +120,7 @@ fn turns<'a>(
     count: u64,
     turn: Vec<Phase<'a>>,
 ) -> Result<Vec<Phase<'a>>, NoMemory>
-    ensures { GivesPhases result (turn_phases (numbered_seen command.entry)
+    ensures { GivesPhases result (gathered_turn_phases (numbered_seen command.entry)
         (Some (header_seen header.now)) count (phase_list turn.entry)) }
 {
     if turn.is_empty() || count == 0 {
@@ -168,7 +168,7 @@ fn choice<'a>(
     then: Vec<Phase<'a>>,
     other: Vec<Phase<'a>>,
 ) -> Result<Vec<Phase<'a>>, NoMemory>
-    ensures { GivesPhases result (choice_phases (numbered_seen command.entry)
+    ensures { GivesPhases result (gathered_choice_phases (numbered_seen command.entry)
         (Some (term_seen test.now)) (phase_list «then».entry) (phase_list other.entry)) }
 {
     if are_straight(then.as_slice()) && are_straight(other.as_slice()) {
@@ -276,7 +276,7 @@ fn straight_alone<'a>(
 ) -> Result<(Vec<Phase<'a>>, u32), NoMemory>
     ensures next { IfOk result (λ g. g.1 ≡ behind first (accesses_of (action_seen command.now))) }
     ensures phases { IfOk result (λ g. phase_list g.0
-        ≡ walk.one_command (numbered (action_seen command.now) first)) }
+        ≡ walk.lone_phase (as_numbered (action_seen command.now) first)) }
 {
     let phases = one_command(alloc, NumberedCommand { command, first })?;
     Ok((phases, behind_command(first, command)))
@@ -302,7 +302,7 @@ fn view_phases<'a>(
 
 /// Whether a command is straight by its form alone, so that no list has to be made to join it to those before it.
 fn stands_alone(command: &Command) -> bool
-    ensures { result ≡ true → IsAlone command.now }
+    ensures { result ≡ true → IsPhaseAlone command.now }
 {
     match &command.form {
         CommandForm::Let { .. } => true,

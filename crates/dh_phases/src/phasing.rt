@@ -3,7 +3,7 @@
 ghost use Rattle.std.specs.Prelude.{◌≡◌, ℕ, [], option_map};
 ghost use Rattle.dh_tree.specs.Seen.{action_seen, all_parts_seen, maybe_block_seen, program_seen};
 ghost use Rattle.dh_tree.specs.Numbers.{IsNumbered};
-ghost use Rattle.dh_phases.specs.FoundCommands.{GivesPhasesOf, HasCommand, found_seen, first_of, first_in_other, first_in_groups};
+ghost use Rattle.dh_phases.specs.FoundCommands.{GivesPhasesOf, HasCommand, found_seen, first_in_command, first_in_other, first_in_groups};
 
 use crate::gathering::{Phase, gather};
 use dh_base::NoMemory;
@@ -14,7 +14,7 @@ use std::alloc::Global;
 #[cycle(seeking)]
 #[tactic(auto, using(dh_tree::proofs::SeenActions::actions_are))]
 fn find(command: &Command, number: u32) -> Option<&Command>
-    ensures { found_seen result ≡ first_of number (action_seen command.now) }
+    ensures { found_seen result ≡ first_in_command number (action_seen command.now) }
 {
     if command.id == number {
         return Some(command);

@@ -6,14 +6,14 @@ use Rattle.dh_tree.specs.Meets as meets
 use Rattle.dh_plan.specs.declared.plans.Meets.{Meets}
 use Rattle.dh_plan.specs.declared.plans.Meets.TheVariants.{Access, All, One}
 use Rattle.dh_plan.specs.declared.plans.Meets.TheBlock as block
-use Rattle.dh_plan.specs.SeenPlans.{meets_seen, all_seen, one_seen, alls, ones}
+use Rattle.dh_plan.specs.SeenPlans.{meets_seen, all_row_seen, one_seen, alls, ones}
 use mathlib.Core.Former.{Count}
 
 pub access_is : (access : ℕ) → meets_seen (Access access) ≡ meets.access access
 unfolding meets_seen
 access_is access = refl
 
-all_row : (n : Count) (k : block.Row_of-Meets n) → all_seen k ≡ alls (block.items-the_row-Meets n k)
+all_row : (n : Count) (k : block.Row_of-Meets n) → all_row_seen k ≡ alls (block.items-the_row-Meets n k)
 unfolding meets_seen
 all_row _ block.end_of-Meets = refl
 all_row _ (block.more_of-Meets {n = n} p rest) = ap (λ (s : meets.Meets). meets.all (meets_seen p) s) (all_row n rest)

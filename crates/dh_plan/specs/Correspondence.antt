@@ -1,6 +1,6 @@
 -- How the registers of a plan stand for the variables of its program: a register for a variable at a path, and
 -- for a loop one counter for the iterator at all its copies.
-use Rattle.std.specs.Prelude.{◌≡◌, ℕ, ◌<◌, ◌^◌, List, [], ◌∷◌, length, slice_get, slice_index, Option, Some, pos}
+use Rattle.std.specs.Prelude.{◌≡◌, ℕ, ◌<◌, ◌^◌, List, [], ◌∷◌, length, map, slice_get, slice_index, Option, Some, pos}
 use Rattle.dh_value.specs.declared.kinds.Kind.{Kind}
 use Rattle.dh_value.specs.Words.{width_of, word_of}
 use Rattle.dh_meaning.specs.Core.{Turning}
@@ -27,6 +27,10 @@ Holding kinds slots registers variables =
 pub record Round : Type 0 where
   pub loop : Turning
   pub counter : ℕ
+
+-- the loops round a place
+abbrev pub loops_round : List Round → List Turning
+loops_round rounds = map (λ (r : Round). r.loop) rounds
 
 -- the paths inside loops that stand one in the other
 abbrev pub paths_within : List Path → List Round → List Path

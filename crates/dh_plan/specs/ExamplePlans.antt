@@ -88,8 +88,8 @@ abbrev pub element_set : (size position value : ℕ) → List (List ℕ)
 element_set size position value = slice_set (replicate size 0) position value ∷ []
 
 -- two zeros, and a number that a test looks at
-abbrev pub told : ℕ → List (List ℕ)
-told n = (0 ∷ 0 ∷ []) ∷ (n ∷ []) ∷ []
+abbrev pub tested_contents : ℕ → List (List ℕ)
+tested_contents n = (0 ∷ 0 ∷ []) ∷ (n ∷ []) ∷ []
 
 -- two memories of four zeros, and an index that neither has
 abbrev pub far_index : List (List ℕ)

@@ -11,13 +11,13 @@ use Rattle.dh_plan.specs.PlainPlans.{block_node, turns_node, PlainPlan}
 abbrev pub three_turns : Turning
 three_turns = record { iterator = 1; depth = 0; low = 0; factor = 1; count = 3 }
 
-abbrev pub stored : Reach
-stored = record { number = 0; place = record { line = 2; column = 22 }; memory = 0 }
+abbrev pub stored_reach : Reach
+stored_reach = record { number = 0; place = record { line = 2; column = 22 }; memory = 0 }
 
 abbrev pub storing_program : CoreProgram
 storing_program = record {
   table = line 65 8 2 ∷ [];
-  phases = phase_and (turning three_turns (phase_and (straightly (command_and (store stored (by_indices (term_and (literal (Unsigned 32) false 1) no_terms)) (literal (Unsigned 8) false 7)) no_commands)) no_core_phases)) no_core_phases;
+  phases = phase_and (turning three_turns (phase_and (straightly (command_and (store stored_reach (by_indices (term_and (literal (Unsigned 32) false 1) no_terms)) (literal (Unsigned 8) false 7)) no_commands)) no_core_phases)) no_core_phases;
 }
 
 abbrev pub storing_plan : PlainPlan

@@ -32,11 +32,11 @@ zero_index = term here (Some (Signed 32)) (number false 0)
 abbrev pub let_be : (id letter entity : ℕ) → Term → Action
 let_be id letter entity value = action id here (lets (called letter entity) None (Some value))
 
-abbrev pub block_of : (id : ℕ) → Actions → Action
-block_of id as_one = action id here (blocks (group_then as_one no_groups))
+abbrev pub block_action : (id : ℕ) → Actions → Action
+block_action id as_one = action id here (blocks (group_then as_one no_groups))
 
 abbrev pub whole : List Declared → Actions → Program
-whole decls body = record { decls = decls; functions = []; body = block_of 0 body; entities = [] }
+whole decls body = record { decls = decls; functions = []; body = block_action 0 body; entities = [] }
 
 -- `decl A: ubit<8>[2];\nlet x = A[0]; let y = A[0];`
 abbrev pub shared_reads : Program
@@ -51,8 +51,8 @@ loop_over id high factor body =
 abbrev pub two_copies : Program
 two_copies =
     whole (pair 2 ∷ [])
-    (action_then (loop_over 1 2 2 (block_of 2 (action_then (let_be 3 120 2 (element (term here (Some (Unsigned 32)) (named (called 105 1))))) no_actions))) no_actions)
+    (action_then (loop_over 1 2 2 (block_action 2 (action_then (let_be 3 120 2 (element (term here (Some (Unsigned 32)) (named (called 105 1))))) no_actions))) no_actions)
 
 -- `for (let i = 0..0) { let x = 1; }`
 abbrev pub no_turn : Program
-no_turn = whole [] (action_then (loop_over 1 0 1 (block_of 2 (action_then (let_be 3 120 2 (term here (Some (Signed 32)) (number false 1))) no_actions))) no_actions)
+no_turn = whole [] (action_then (loop_over 1 0 1 (block_action 2 (action_then (let_be 3 120 2 (term here (Some (Signed 32)) (number false 1))) no_actions))) no_actions)

@@ -49,6 +49,10 @@ greatest_number (n ∷ ns) = max n (greatest_number ns)
 abbrev pub needed_clock : (first : ℕ) → List Operation → (clocks : List ℕ) → Operation → ℕ
 needed_clock first os clocks o = greatest_number (map (value_clock first os clocks) (operation_takes o))
 
+-- each operation of a block stands where all is there that it takes
+abbrev pub NeedsAreMet : (first : ℕ) → List Operation → (clocks : List ℕ) → Type 0
+NeedsAreMet first os clocks = (i : ℕ) (o : Operation) → slice_get os i ≡ Some o → needed_clock first os clocks o ≤ slice_index clocks i
+
 -- when the last value of a block is there
 abbrev pub last_clock : List Operation → (clocks : List ℕ) → ℕ
 last_clock [] clocks = 0

@@ -14,12 +14,12 @@ use Rattle.dh_plan.specs.declared.plans.Plan.{Plan}
 unfoldable mutual
   pub meets_seen : Meets → meets.Meets
   meets_seen (Access access) = meets.access access
-  meets_seen (All' shape parts) = all_seen parts
+  meets_seen (All' shape parts) = all_row_seen parts
   meets_seen (One' shape parts) = one_seen parts
 
-  pub all_seen : {m : _} → Row_of-Meets m → meets.Meets
-  all_seen end_of-Meets = meets.nothing
-  all_seen (more_of-Meets p rest) = meets.all (meets_seen p) (all_seen rest)
+  pub all_row_seen : {m : _} → Row_of-Meets m → meets.Meets
+  all_row_seen end_of-Meets = meets.nothing
+  all_row_seen (more_of-Meets p rest) = meets.all (meets_seen p) (all_row_seen rest)
 
   pub one_seen : {m : _} → Row_of-Meets m → meets.Meets
   one_seen end_of-Meets = meets.nothing

@@ -6,7 +6,7 @@ ghost use Rattle.dh_base.specs.declared.outcomes.Outcome.TheVariants.{Going, End
 ghost use Rattle.dh_plan.specs.BoundPorts.{IsBinding};
 ghost use Rattle.dh_plan.specs.DoneProgram.{IsPlanOf};
 ghost use Rattle.dh_plan.specs.ExamplePasses.{storing_flow, storing_timing, storing_uses};
-ghost use Rattle.dh_plan.specs.ExamplePlans.{zeros, two_cells, five_zeros, ones_and_twos, element_set, told, far_index, to_fold, outside_at, first_plan, faulting_plan, endless_plan, threads_plan, split_plan, physical_plan, choice_plan, late_fault_plan, fold_plan};
+ghost use Rattle.dh_plan.specs.ExamplePlans.{zeros, two_cells, five_zeros, ones_and_twos, element_set, tested_contents, far_index, to_fold, outside_at, first_plan, faulting_plan, endless_plan, threads_plan, split_plan, physical_plan, choice_plan, late_fault_plan, fold_plan};
 ghost use Rattle.dh_plan.specs.ExamplePrograms.{storing_plan};
 ghost use Rattle.dh_plan.specs.ExampleSizes.{shared_reads, two_copies, no_turn};
 ghost use Rattle.dh_plan.specs.ExampleTree.{storing_tree};
@@ -56,10 +56,10 @@ pub fn elements_are_reached()
 
 /// An `if` with an arm of two steps: the test is a step of its own.
 pub fn choice_plan_chooses()
-    ensures chosen { (plan_state choice_plan (told 1) 9).memories ≡ (1 ∷ 2 ∷ []) ∷ (1 ∷ []) ∷ [] }
-    ensures chosen_steps { (plan_state choice_plan (told 1) 9).steps ≡ 4 }
-    ensures other { (plan_state choice_plan (told 0) 9).memories ≡ (9 ∷ 0 ∷ []) ∷ (0 ∷ []) ∷ [] }
-    ensures other_steps { (plan_state choice_plan (told 0) 9).steps ≡ 3 }
+    ensures chosen { (plan_state choice_plan (tested_contents 1) 9).memories ≡ (1 ∷ 2 ∷ []) ∷ (1 ∷ []) ∷ [] }
+    ensures chosen_steps { (plan_state choice_plan (tested_contents 1) 9).steps ≡ 4 }
+    ensures other { (plan_state choice_plan (tested_contents 0) 9).memories ≡ (9 ∷ 0 ∷ []) ∷ (0 ∷ []) ∷ [] }
+    ensures other_steps { (plan_state choice_plan (tested_contents 0) 9).steps ≡ 3 }
 {}
 
 /// The first fault in order is reported, though another is known a clock earlier.

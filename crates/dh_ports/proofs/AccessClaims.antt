@@ -18,8 +18,8 @@ use Rattle.dh_meets.specs.Charges.{bank_reached, key_of, paths_of, groups_of, su
 use Rattle.dh_meets.specs.SourceEvents.{Element, with_indices, in_row, SourceAccess}
 use Rattle.dh_events.specs.declared.events.Site.{Site}
 use Rattle.dh_ports.specs.declared.moves.Move.{Move}
-use Rattle.dh_ports.specs.Claims.{access_of, base_of, keys_on, counts_to, claims_from, claims_in, claims_at, claims_of, count_on, owner_of}
-use Rattle.dh_ports.specs.Courses.{count}
+use Rattle.dh_ports.specs.Claims.{access_of, first_bank_of, keys_on, counts_to, claims_from, claims_in, claims_at, claims_of, count_on, owner_of}
+use Rattle.dh_ports.specs.Courses.{access_count}
 use Rattle.dh_events.specs.Incidents.{PortEvent, touches, assigned, arm_begins, arm_ends, begins, next, ends}
 use Rattle.dh_ports.specs.Wholes.{Touched, touched, touched_by, of_access, sites_in, at_touches}
 
@@ -55,7 +55,7 @@ event_of (begins ∷ xs) k = suc (event_of xs k)
 event_of (next ∷ xs) k = suc (event_of xs k)
 event_of (ends ∷ xs) k = suc (event_of xs k)
 
-pub at_event : {A : Type 0} (xs : List PortEvent) (zs : List A) (k : ℕ) → length zs ≡ length xs → k < count xs → slice_get (at_touches xs zs) k ≡ slice_get zs (event_of xs k)
+pub at_event : {A : Type 0} (xs : List PortEvent) (zs : List A) (k : ℕ) → length zs ≡ length xs → k < access_count xs → slice_get (at_touches xs zs) k ≡ slice_get zs (event_of xs k)
 at_event [] [] k l h = refl
 at_event (x ∷ xs) [] k l h = absurd (none_more (length xs) l)
 at_event [] (a ∷ zs) k l h = absurd (none_below k h)
@@ -74,7 +74,7 @@ there_is [] k h = absurd (none_below k h)
 there_is (a ∷ zs) zero h = (a, refl)
 there_is (a ∷ zs) (suc k) h = there_is zs k (fewer _ _ h)
 
-pub touched_long : (xs : List PortEvent) → length (touched xs) ≡ count xs
+pub touched_long : (xs : List PortEvent) → length (touched xs) ≡ access_count xs
 touched_long [] = refl
 touched_long (touches t w f ∷ xs) = ap suc (touched_long xs)
 touched_long (assigned e ∷ xs) = touched_long xs
@@ -141,7 +141,7 @@ module _ (p : Program) (loops : Option ℕ → List Counter) where
       shift : (n j : ℕ) → n + 1 + j ≡ n + suc j
       shift n j = omega arith
 
-  pub touch_at : (event : ℕ) (xs : List PortEvent) (k : ℕ) → k < count xs → TouchAt event xs k
+  pub touch_at : (event : ℕ) (xs : List PortEvent) (k : ℕ) → k < access_count xs → TouchAt event xs k
   touch_at event [] k h = absurd (none_below k h)
   touch_at event (touches t w s ∷ xs) zero h = record { access = t; writes = w; site = s; touch = refl; sited = refl; stands = refl; claims = ap (λ n. claims_of p n (access_of (loops s.round) w t)) (plus_none event) }
     where
@@ -170,13 +170,13 @@ module _ (p : Program) (loops : Option ℕ → List Counter) where
       record { access = r.access; writes = r.writes; site = r.site; touch = r.touch; sited = r.sited; stands = r.stands; claims = next_claims event (event_of xs k) (access_of (loops r.site.round) r.writes r.access) xs k r.claims }
 
   -- no access has a number beyond
-  pub none_claims : (event : ℕ) (xs : List PortEvent) (k : ℕ) → count xs ≤ k → nth_claims (claim_lists p loops event xs) k ≡ []
+  pub none_claims : (event : ℕ) (xs : List PortEvent) (k : ℕ) → access_count xs ≤ k → nth_claims (claim_lists p loops event xs) k ≡ []
   none_claims event [] k h = refl
-  none_claims event (touches t w s ∷ xs) zero h = absurd (none (count xs) h)
+  none_claims event (touches t w s ∷ xs) zero h = absurd (none (access_count xs) h)
     where
       none : (n : ℕ) → suc n ≤ 0 → ⊥
       none n e = omega (arith, e)
-  none_claims event (touches t w s ∷ xs) (suc k) h = none_claims (event + 1) xs k (one_less (count xs) k h)
+  none_claims event (touches t w s ∷ xs) (suc k) h = none_claims (event + 1) xs k (one_less (access_count xs) k h)
     where
       one_less : (m n : ℕ) → suc m ≤ suc n → m ≤ n
       one_less m n e = omega (arith, e)
@@ -220,7 +220,7 @@ module _ (p : Program) (a : SourceAccess) where
 
       by_number : (o : Option ℕ) → claims_at p event o (stripped a) ≡ claims_at p event o a
       by_number None = refl
-      by_number (Some m) = by_entry (base_of (table_of p) m) (slice_get (table_of p) m)
+      by_number (Some m) = by_entry (first_bank_of (table_of p) m) (slice_get (table_of p) m)
 
 -- an access of the code is one of the program, by what both say
 abbrev with_parts : Touched → List Counter → SourceAccess

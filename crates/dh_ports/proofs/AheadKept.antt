@@ -18,9 +18,9 @@ use Rattle.dh_ports.specs.declared.levels.Step.TheVariants as step
 use Rattle.dh_ports.specs.declared.moves.Move.{Move}
 use Rattle.dh_ports.specs.declared.moves.Move.TheVariants as move
 use Rattle.dh_ports.specs.Ahead.{AreAhead, IsWriteAt, NoneReads}
-use Rattle.dh_ports.specs.Levels.{Floor, Level, advance, begun, kept_back, left_before, lefts_of, level, settled, settled_in, start, taken}
+use Rattle.dh_ports.specs.Levels.{Floor, Level, advance, begun, kept_back, left_before, left_before_each, slot_level, settled_slot_level, settled_in, start, taken}
 use Rattle.dh_ports.specs.Orders.{order_of, order_step, slot_in, step_in}
-use Rattle.dh_ports.specs.Scanned.{all_late, bank_key, is_late, late_at, place_in, take_of, IsMoveOf, IsNoted, IsNotedFor, IsReadAt, IsWritten, KeepsLate}
+use Rattle.dh_ports.specs.Scanned.{all_late, bank_key, is_late, late_at, move_place, take_of, IsMoveOf, IsNotedClaim, IsNotedFor, IsReadAt, IsWritten, KeepsLate}
 use Rattle.dh_ports.proofs.LateWalk.{slot_found, slot_none}
 use Rattle.dh_ports.proofs.RunTurns.{keeps_late}
 
@@ -122,7 +122,7 @@ noted_at known bank (Some event.Begins) there has = tt
 noted_at known bank (Some event.Next) there has = tt
 noted_at known bank (Some event.Ends) there has = tt
 
-noted_one : (events : List Event) (known : List Key) (m : Move) → IsMoveOf (length events) m → ((k : Key) → key_of events m ≡ Some k → Has known k) → IsNoted known events m
+noted_one : (events : List Event) (known : List Key) (m : Move) → IsMoveOf (length events) m → ((k : Key) → key_of events m ≡ Some k → Has known k) → IsNotedClaim known events m
 noted_one events known (move.Claim e bank keys) within has = noted_at known bank (slice_get events e) (event_there events e within) has
 noted_one events known move.Begin within has = tt
 noted_one events known move.Next within has = tt
@@ -163,7 +163,7 @@ free_settled_in : (l : Level) (fs : List Floor) → IsFree l → AreFree fs → 
 free_settled_in l [] h g = h
 free_settled_in l (f ∷ fs) h g = record { now = h.low; base = g.0.0; low = g.0.1; outer = g.1 }
 
-free_settled : (l : Level) → IsFree l → IsFree (settled l)
+free_settled : (l : Level) → IsFree l → IsFree (settled_slot_level l)
 free_settled l h = free_settled_in l l.outer h h.outer
 
 -- a look takes nothing
@@ -173,7 +173,7 @@ free_looked slot other l h = by_test (slot == other)
     less_none : (n : ℕ) → 1 ≤ n → 1 ≤ n - 0
     less_none n e = omega (arith, e)
 
-    by_test : (b : Bool) → IsFree (if b then level (l.now - 0) l.base l.low l.outer else l)
+    by_test : (b : Bool) → IsFree (if b then slot_level (l.now - 0) l.base l.low l.outer else l)
     by_test true = record { now = less_none l.now h.now; base = h.base; low = h.low; outer = h.outer }
     by_test false = h
 
@@ -240,11 +240,11 @@ module _ (events : List Event) (known : List Key) where
       stays_written : (e bank keys phase other : ℕ) → m ≡ move.Claim e bank keys → slice_get known other ≡ Some (bank_key phase bank) → NoneReads events phase bank ms → Stays (step.Access other 1)
       stays_written e bank keys phase other is at none = by_test (cases_Bool (other == slot))
         where
-          by_test : ((other == slot) ≡ true) ⊎ ((other == slot) ≡ false) → IsFree (if other == slot then level ((levels slot).now - 1) (levels slot).base (levels slot).low (levels slot).outer else levels slot) ⊎ NoneReads events k.phase k.element ms
+          by_test : ((other == slot) ≡ true) ⊎ ((other == slot) ≡ false) → IsFree (if other == slot then slot_level ((levels slot).now - 1) (levels slot).base (levels slot).low (levels slot).outer else levels slot) ⊎ NoneReads events k.phase k.element ms
           by_test (inl f) =
               let same = some_same (bank_key phase bank) k (sym at ∙ (ap (slice_get known) (eqb-true other slot f) ∙ stands)) in
               inr (subst (λ (x : Key). NoneReads events x.phase x.element ms) same none)
-          by_test (inr f) = inl (subst (λ (b : Bool). IsFree (if b then level ((levels slot).now - 1) (levels slot).base (levels slot).low (levels slot).outer else levels slot)) (sym f) is_free)
+          by_test (inr f) = inl (subst (λ (b : Bool). IsFree (if b then slot_level ((levels slot).now - 1) (levels slot).base (levels slot).low (levels slot).outer else levels slot)) (sym f) is_free)
 
       stays_at : (e bank keys : ℕ) → m ≡ move.Claim e bank keys → (o : Option Event) → slice_get events e ≡ o → Stays (order_of known o bank)
       stays_at e bank keys is None at = inl is_free
@@ -279,10 +279,10 @@ module _ (events : List Event) (known : List Key) where
 
   abbrev tested : Move → List Move → (ℕ → Level) → Bool → List Breach
   tested m ms levels b =
-      if b then late_at (place_in (all_seen events) m) ++ all_late (all_seen events) ms (map (order_step known events) ms) (lefts_of (behind m levels) (map (order_step known events) ms))
-      else all_late (all_seen events) ms (map (order_step known events) ms) (lefts_of (behind m levels) (map (order_step known events) ms))
+      if b then late_at (move_place (all_seen events) m) ++ all_late (all_seen events) ms (map (order_step known events) ms) (left_before_each (behind m levels) (map (order_step known events) ms))
+      else all_late (all_seen events) ms (map (order_step known events) ms) (left_before_each (behind m levels) (map (order_step known events) ms))
 
-  none_late : (ms : List Move) (levels : ℕ → Level) → AreAhead events ms → Free ms levels → ◌≡◌ {A = List Breach} [] (all_late (all_seen events) ms (map (order_step known events) ms) (lefts_of levels (map (order_step known events) ms)))
+  none_late : (ms : List Move) (levels : ℕ → Level) → AreAhead events ms → Free ms levels → ◌≡◌ {A = List Breach} [] (all_late (all_seen events) ms (map (order_step known events) ms) (left_before_each levels (map (order_step known events) ms)))
   none_late [] levels ahead free = refl
   none_late (m ∷ ms) levels ahead free = none_late ms (behind m levels) ahead.1 (free_next m ms levels free ahead) ∙ sym (ap (tested m ms levels) (not_late m ms levels free m refl))
 

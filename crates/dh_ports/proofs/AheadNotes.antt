@@ -13,7 +13,7 @@ use Rattle.dh_ports.specs.declared.moves.Move.{Move}
 use Rattle.dh_ports.specs.declared.moves.Move.TheVariants as move
 use Rattle.dh_ports.specs.declared.moves.Run.{Run}
 use Rattle.dh_ports.specs.Ahead.{AreAhead, ClaimsRead, ClaimsWrite, Covers, IsAhead, IsWriteAt, NotesAt, NotesMove, NotesMoves, Raises}
-use Rattle.dh_ports.specs.Runs.{at_slot, moves_in, moves_of_run, row_of}
+use Rattle.dh_ports.specs.Runs.{at_slot, moves_in, moves_of_run, moves_in_row}
 use Rattle.dh_ports.specs.Scanned.{IsReadAt}
 use Rattle.dh_ports.proofs.RunTurns.{all_both, row_past, row_step, runs_at}
 
@@ -142,13 +142,13 @@ NotesRest events now rest first whole = (last : LastWrites) → NotesMoves event
 pub ahead_first : (events : List Event) (lasts : LastWrites) (ms : List Move) → NotesRest events lasts ms lasts ms
 ahead_first events lasts ms = λ last h. h
 
-pub ahead_turn : (events : List Event) (first old new : LastWrites) (run m : Move) (slot end : ℕ) (whole : List Move) → slot < end → m ≡ at_slot run slot → NotesMove events old new m → NotesRest events old (row_of run slot (end - slot)) first whole
-    → NotesRest events new (row_of run (slot + 1) (end - (slot + 1))) first whole
+pub ahead_turn : (events : List Event) (first old new : LastWrites) (run m : Move) (slot end : ℕ) (whole : List Move) → slot < end → m ≡ at_slot run slot → NotesMove events old new m → NotesRest events old (moves_in_row run slot (end - slot)) first whole
+    → NotesRest events new (moves_in_row run (slot + 1) (end - (slot + 1))) first whole
 ahead_turn events first old new run m slot end whole inside is noted so = λ last h.
-    so last (subst (λ (ms : List Move). NotesMoves events old ms last) (sym (row_step run slot end inside ∙ ap (λ x. x ∷ row_of run (slot + 1) (end - (slot + 1))) (sym is)))
-    (notes_both events old new last (m ∷ []) (row_of run (slot + 1) (end - (slot + 1))) (notes_move events old new m noted) h))
+    so last (subst (λ (ms : List Move). NotesMoves events old ms last) (sym (row_step run slot end inside ∙ ap (λ x. x ∷ moves_in_row run (slot + 1) (end - (slot + 1))) (sym is)))
+    (notes_both events old new last (m ∷ []) (moves_in_row run (slot + 1) (end - (slot + 1))) (notes_move events old new m noted) h))
 
-pub ahead_row_done : (events : List Event) (first now : LastWrites) (run : Move) (slot end : ℕ) (whole : List Move) → end ≤ slot → NotesRest events now (row_of run slot (end - slot)) first whole → NotesMoves events first whole now
+pub ahead_row_done : (events : List Event) (first now : LastWrites) (run : Move) (slot end : ℕ) (whole : List Move) → end ≤ slot → NotesRest events now (moves_in_row run slot (end - slot)) first whole → NotesMoves events first whole now
 ahead_row_done events first now run slot end whole past so = so now (subst (λ (ms : List Move). NotesMoves events now ms now) (row_past run slot end past) (notes_none events now))
 
 pub ahead_run : (events : List Event) (first old new : LastWrites) (rs : List Run) (i : ℕ) (d : Run) (whole : List Move) → i < length rs → NotesMoves events old (moves_of_run (get_or rs i d)) new → NotesRest events old (moves_in (drop i rs)) first whole

@@ -14,7 +14,7 @@ use Rattle.dh_tree.specs.Seen.{form_seen, term_seen, terms}
 use Rattle.dh_tree.specs.Shapes.{IsDim}
 use Rattle.dh_meets.specs.Charges.{index_in, indices_in}
 use Rattle.dh_ports.specs.declared.banks.Start.{Start}
-use Rattle.dh_ports.specs.Banks.{copy_of, IsStart}
+use Rattle.dh_ports.specs.Banks.{copy_of, IsIndexStart}
 use Rattle.dh_shape.specs.Classified.{loops_in}
 use Rattle.dh_ports.proofs.ClaimedBanks.{bank_told}
 use Rattle.dh_events.proofs.Turns.{at_place}
@@ -107,7 +107,7 @@ module _ (ds : List Dim) (i : ℕ) (d : Dim) (h : AllByRecursion IsDim ds) (few 
         ∙ (sym (ap (λ l. bank_at tree (get_or ds (i - 1) d ∷ drop i ds) l) (at_place es (i - 1) e inside ∙ (ap (λ x. x ∷ drop (i - 1 + 1) es) (sym is) ∙ ap (λ n. e ∷ drop n es) (back i some))))
         ∙ sym (ap (λ l. bank_at tree l (drop (i - 1) es)) here))))
 
-    pub told_more : (e : Expr) (start : Start) (residue next : ℕ) → i - 1 < length es → e ≡ get_or es (i - 1) e → IsStart tree e start → residue ≡ unsigned_abs (pos (start.low + 0) +ℤ start.offset) % (get_or ds (i - 1) d).banks → next ≡ residue * count + bank
+    pub told_more : (e : Expr) (start : Start) (residue next : ℕ) → i - 1 < length es → e ≡ get_or es (i - 1) e → IsIndexStart tree e start → residue ≡ unsigned_abs (pos (start.low + 0) +ℤ start.offset) % (get_or ds (i - 1) d).banks → next ≡ residue * count + bank
         → next ≡ bank_at tree (drop (i - 1) ds) (drop (i - 1) es)
     told_more e start residue next inside is s r so =
         with_value e next inside is

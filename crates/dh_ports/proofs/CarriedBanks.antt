@@ -16,7 +16,7 @@ use Rattle.dh_viewing.proofs.BankDigits.{bank_at_below, digits_bank, digits_insi
 use Rattle.dh_viewing.proofs.ViewBanks.{covered_digits, covered_element, same_inside}
 use Rattle.dh_meaning.specs.Ways.{WayStep}
 use Rattle.dh_ways.specs.Leading.{StepsLead, next_dims}
-use Rattle.dh_ports.specs.Carriers.{banks_behind, has_shift, is_shift, source_in, source_through}
+use Rattle.dh_ports.specs.Carriers.{banks_behind, has_shift, is_shift_sort, source_in, source_through}
 use Rattle.dh_ports.proofs.ClaimedBanks.{banks_some}
 
 absurd : {A : Type 0} → ⊥ → A
@@ -123,14 +123,14 @@ record ChargedAs (s : ViewSort) (vs ps : List Dim) (bank : ℕ) : Type 0 where
   pub source : source_in s vs ps there ≡ bank
 
 module _ (vs ps : List Dim) (ks : List ℕ) (own : AllByRecursion IsDim vs) (dims : AllByRecursion IsDim ps) where
-  source_below : (s : ViewSort) (bank : ℕ) → IsShapeOf s vs ps ks → is_shift s ≡ false → bank < banks_of ps → source_in s vs ps bank < banks_of vs
+  source_below : (s : ViewSort) (bank : ℕ) → IsShapeOf s vs ps ks → is_shift_sort s ≡ false → bank < banks_of ps → source_in s vs ps bank < banks_of vs
   source_below Shrink bank h e below =
       subst (λ (n : ℕ). n < banks_of vs) (covered_digits vs ps ks bank h) (bank_at_below vs (indices_of ps bank) own (same_inside vs ps ks (indices_of ps bank) h ∙ digits_inside ps bank dims below))
   source_below Split bank h e below = subst (λ (n : ℕ). bank < n) (sym (split_same vs ps ks h)) below
   source_below Suffix bank h e below = subst (λ (ds : List Dim). bank < banks_of ds) (sym (suffix_same vs ps ks h)) below
   source_below Shift bank h e below = cc
 
-  charged_as : (s : ViewSort) (bank : ℕ) → IsShapeOf s vs ps ks → is_shift s ≡ false → bank < banks_of vs → ChargedAs s vs ps bank
+  charged_as : (s : ViewSort) (bank : ℕ) → IsShapeOf s vs ps ks → is_shift_sort s ≡ false → bank < banks_of vs → ChargedAs s vs ps bank
   charged_as Shrink bank h e below =
       let within = sym (same_inside vs ps ks (indices_of vs bank) h) ∙ digits_inside vs bank own below in
       record {
@@ -143,7 +143,7 @@ module _ (vs ps : List Dim) (ks : List ℕ) (own : AllByRecursion IsDim vs) (dim
   charged_as Shift bank h e below = cc
 
   -- so the most charged banks are charged alike
-  largest_kept : (s : ViewSort) (charge : ℕ → ℕ) → IsShapeOf s vs ps ks → is_shift s ≡ false → largest (λ bank. charge (source_in s vs ps bank)) (banks_of ps) ≡ largest charge (banks_of vs)
+  largest_kept : (s : ViewSort) (charge : ℕ → ℕ) → IsShapeOf s vs ps ks → is_shift_sort s ≡ false → largest (λ bank. charge (source_in s vs ps bank)) (banks_of ps) ≡ largest charge (banks_of vs)
   largest_kept s charge h e =
       least_most (largest (λ bank. charge (source_in s vs ps bank)) (banks_of ps)) (largest charge (banks_of vs))
       (largest_below (λ bank. charge (source_in s vs ps bank)) (banks_of ps) (largest charge (banks_of vs)) (λ bank i. largest_above charge (banks_of vs) (source_in s vs ps bank) (source_below s bank h e i)))
@@ -151,13 +151,13 @@ module _ (vs ps : List Dim) (ks : List ℕ) (own : AllByRecursion IsDim vs) (dim
       let at = charged_as s bank h e i in
       subst (λ (b : ℕ). charge b ≤ largest (λ other. charge (source_in s vs ps other)) (banks_of ps)) at.source (largest_above (λ other. charge (source_in s vs ps other)) (banks_of ps) at.there at.inside)))
 
-as_source : (s : ViewSort) (vs ps : List Dim) (charge : ℕ → ℕ) (bank : ℕ) → is_shift s ≡ false → carried_as s vs ps charge bank ≡ charge (source_in s vs ps bank)
+as_source : (s : ViewSort) (vs ps : List Dim) (charge : ℕ → ℕ) (bank : ℕ) → is_shift_sort s ≡ false → carried_as s vs ps charge bank ≡ charge (source_in s vs ps bank)
 as_source Shrink vs ps charge bank e = refl
 as_source Split vs ps charge bank e = refl
 as_source Suffix vs ps charge bank e = refl
 as_source Shift vs ps charge bank e = cc
 
-as_largest : (s : ViewSort) (vs ps : List Dim) (charge : ℕ → ℕ) (bank : ℕ) → is_shift s ≡ true → carried_as s vs ps charge bank ≡ largest charge (banks_of vs)
+as_largest : (s : ViewSort) (vs ps : List Dim) (charge : ℕ → ℕ) (bank : ℕ) → is_shift_sort s ≡ true → carried_as s vs ps charge bank ≡ largest charge (banks_of vs)
 as_largest Shrink vs ps charge bank e = cc
 as_largest Split vs ps charge bank e = cc
 as_largest Suffix vs ps charge bank e = cc
@@ -175,13 +175,13 @@ as_one Shift vs ps charge most bank own e = largest_one charge most (banks_of vs
 pub carried_source : (vs : List ViewMap) (charge : ℕ → ℕ) (bank : ℕ) → has_shift vs ≡ false → carried_by vs charge bank ≡ charge (source_through vs bank)
 carried_source [] charge bank e = refl
 carried_source (v ∷ vs) charge bank e =
-    let parts = or_parts (is_shift v.sort) (has_shift vs) e in
+    let parts = or_parts (is_shift_sort v.sort) (has_shift vs) e in
     carried_source vs (carried v charge) bank parts.1 ∙ as_source v.sort v.shape.dims v.parent.dims charge (source_through vs bank) parts.0
 
 pub source_inside : (ss : List WayStep) (memory : List Dim) (bank : ℕ) → StepsLead ss memory → has_shift (map (λ s. s.is) ss) ≡ false → bank < banks_of memory → source_through (map (λ s. s.is) ss) bank < banks_of (next_dims ss memory)
 source_inside [] memory bank lead e below = below
 source_inside (s ∷ ss) memory bank lead e below =
-    let parts = or_parts (is_shift s.is.sort) (has_shift (map (λ s. s.is) ss)) e in
+    let parts = or_parts (is_shift_sort s.is.sort) (has_shift (map (λ s. s.is) ss)) e in
     source_below s.is.shape.dims s.is.parent.dims s.is.by lead.0.own.dims lead.0.parent.dims s.is.sort (source_through (map (λ s. s.is) ss) bank) lead.0.shape parts.0
     (subst (λ (ds : List Dim). source_through (map (λ s. s.is) ss) bank < banks_of ds) (sym lead.1.0) (source_inside ss memory bank lead.1.1 parts.1 below))
 
@@ -191,9 +191,9 @@ carried_one (s ∷ ss) memory charge most bank lead e = carried_one ss memory (c
 
 pub carried_evenly : (ss : List WayStep) (memory : List Dim) (charge : ℕ → ℕ) (bank : ℕ) → StepsLead ss memory → has_shift (map (λ s. s.is) ss) ≡ true → carried_by (map (λ s. s.is) ss) charge bank ≡ largest charge (banks_of (next_dims ss memory))
 carried_evenly [] memory charge bank lead e = cc
-carried_evenly (s ∷ ss) memory charge bank lead e = by (is_shift s.is.sort) refl e (carried_evenly ss memory (carried s.is charge) bank lead.1.1)
+carried_evenly (s ∷ ss) memory charge bank lead e = by (is_shift_sort s.is.sort) refl e (carried_evenly ss memory (carried s.is charge) bank lead.1.1)
   where
-    by : (b : Bool) → is_shift s.is.sort ≡ b → (b || has_shift (map (λ s. s.is) ss)) ≡ true → (has_shift (map (λ s. s.is) ss) ≡ true → carried_by (map (λ s. s.is) ss) (carried s.is charge) bank ≡ largest (carried s.is charge) (banks_of (next_dims ss memory)))
+    by : (b : Bool) → is_shift_sort s.is.sort ≡ b → (b || has_shift (map (λ s. s.is) ss)) ≡ true → (has_shift (map (λ s. s.is) ss) ≡ true → carried_by (map (λ s. s.is) ss) (carried s.is charge) bank ≡ largest (carried s.is charge) (banks_of (next_dims ss memory)))
         → carried_by (map (λ s. s.is) ss) (carried s.is charge) bank ≡ largest charge (banks_of s.is.shape.dims)
     by true f some rest = carried_one ss memory (carried s.is charge) (largest charge (banks_of s.is.shape.dims)) bank lead.1.1 (λ b. as_largest s.is.sort s.is.shape.dims s.is.parent.dims charge b f)
     by false f some rest =

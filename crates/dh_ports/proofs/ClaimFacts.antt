@@ -22,10 +22,10 @@ use Rattle.dh_meets.specs.Sharing.{shared}
 use Rattle.dh_meets.specs.SourceEvents.{SourceAccess, accesses_in, trace}
 use Rattle.dh_ports.specs.declared.moves.Move.{Move}
 use Rattle.dh_ports.specs.declared.moves.Move.TheVariants as move
-use Rattle.dh_ports.specs.Claims.{base_of, counts_to, claim_at, claims_from, claims_in, claims_at, claims_of, count_on, owner_of}
+use Rattle.dh_ports.specs.Claims.{first_bank_of, counts_to, claim_at, claims_from, claims_in, claims_at, claims_of, count_on, owner_of}
 use Rattle.dh_ports.specs.Expanded.{taken_by, all_taken}
 use Rattle.dh_ports.specs.Scanned.{flag_at, spending_step}
-use Rattle.dh_ports.specs.Wholes.{banks_in, banks_at}
+use Rattle.dh_ports.specs.Wholes.{entry_bank_count, memory_bank_count}
 
 absurd : {A : Type 0} → ⊥ → A
 absurd e = elim e [ ]
@@ -226,13 +226,13 @@ one_entity (Some m) (Some n) None e f = cc
 one_entity (Some m) (Some n) (Some k) e f = ap (λ x. Some x) (sym (eqb-true m n e) ∙ eqb-true m k f)
 
 -- the banks of memories stand one behind the other
-pub bases_apart : (es : List MemEntry) (m n : ℕ) → m < n → base_of es m + banks_in (slice_get es m) ≤ base_of es n
+pub bases_apart : (es : List MemEntry) (m n : ℕ) → m < n → first_bank_of es m + entry_bank_count (slice_get es m) ≤ first_bank_of es n
 bases_apart [] m n e = omega arith
 bases_apart (x ∷ es) zero zero e = absurd (none e)
   where
     none : 0 < 0 → ⊥
     none e = omega (arith, e)
-bases_apart (x ∷ es) zero (suc n) e = first (banks_of x.shape.dims) (base_of es n)
+bases_apart (x ∷ es) zero (suc n) e = first (banks_of x.shape.dims) (first_bank_of es n)
   where
     first : (b c : ℕ) → 0 + b ≤ b + c
     first b c = omega arith
@@ -250,7 +250,7 @@ bases_apart (x ∷ es) (suc m) (suc n) e = more (banks_of x.shape.dims) _ _ _ (b
 
 -- Charges.
 
-module _ (p : Program) (flags : List Bool) (event k memory number bank : ℕ) (a : SourceAccess) (is_memory : number_in (memories_of p) (Some memory) ≡ Some number) (there : bank < banks_at p number)
+module _ (p : Program) (flags : List Bool) (event k memory number bank : ℕ) (a : SourceAccess) (is_memory : number_in (memories_of p) (Some memory) ≡ Some number) (there : bank < memory_bank_count p number)
     (stands : slice_get (accesses_in (trace p)) k ≡ Some a) (told : slice_get flags event ≡ Some (is_some (shared p k))) where
   charged : charge p memory bank k ≡ (if is_some (shared p k) then 0 else charge_by p (way_to p a.entity) a memory bank)
   charged = ap (charge_of p memory bank k) stands
@@ -265,7 +265,7 @@ module _ (p : Program) (flags : List Bool) (event k memory number bank : ℕ) (a
   bank_there : nat_lt bank (charges.banks_in p memory) ≡ true
   bank_there =
       lt-ltb bank (charges.banks_in p memory)
-      (subst (λ (n : ℕ). bank < n) (ap banks_in memory_is.entry ∙ sym (ap charges.memory_banks memory_is.is)) there)
+      (subst (λ (n : ℕ). bank < n) (ap entry_bank_count memory_is.entry ∙ sym (ap charges.memory_banks memory_is.is)) there)
 
   -- an access of another memory reaches no bank of this one
   never_by : (w : Option Way) → way_to p a.entity ≡ w → same_entity (ways.base_of w a.entity) (Some memory) ≡ false → charge_by p w a memory bank ≡ 0
@@ -298,7 +298,7 @@ module _ (p : Program) (flags : List Bool) (event k memory number bank : ℕ) (a
   own : same_entity (owner_of p a) (Some memory) ≡ true → charge p memory bank k ≡ (if is_some (shared p k) then 0 else count_on p (way_to p a.entity) memory_is.memory.shape.dims a bank)
   own e = charged ∙ ap (λ n. if is_some (shared p k) then 0 else n) (own_by (way_to p a.entity) refl e)
 
-  pub takes_charge : all_taken (base_of (table_of p) number + bank) (map (spending_step flags) (claims_of p event a)) ≡ charge p memory bank k
+  pub takes_charge : all_taken (first_bank_of (table_of p) number + bank) (map (spending_step flags) (claims_of p event a)) ≡ charge p memory bank k
   takes_charge = by_number (number_in (memories_of p) (owner_of p a)) refl
     where
       entity_is : (m : ℕ) → number_in (memories_of p) (owner_of p a) ≡ Some m → same_entity (owner_of p a) (Some memory) ≡ true → m ≡ number
@@ -321,18 +321,18 @@ module _ (p : Program) (flags : List Bool) (event k memory number bank : ℕ) (a
               none_some : None ≡ Some number → ⊥
               none_some e = cc
 
-      by_number : (o : Option ℕ) → number_in (memories_of p) (owner_of p a) ≡ o → all_taken (base_of (table_of p) number + bank) (map (spending_step flags) (claims_at p event o a)) ≡ charge p memory bank k
+      by_number : (o : Option ℕ) → number_in (memories_of p) (owner_of p a) ≡ o → all_taken (first_bank_of (table_of p) number + bank) (map (spending_step flags) (claims_at p event o a)) ≡ charge p memory bank k
       by_number None e = sym (never (no_memory e))
       by_number (Some m) e = by_place (cases_lt m number) (cases_lt number m)
         where
           mine : Declared (memories_of p) (owner_of p a) m
           mine = found (memories_of p) (owner_of p a) m e
 
-          claims_are : claims_in p event (base_of (table_of p) m) (slice_get (table_of p) m) a ≡ claims_from event (base_of (table_of p) m) (counts_to p mine.memory.shape.dims a (banks_of mine.memory.shape.dims))
-          claims_are = ap (λ o. claims_in p event (base_of (table_of p) m) o a) mine.entry
+          claims_are : claims_in p event (first_bank_of (table_of p) m) (slice_get (table_of p) m) a ≡ claims_from event (first_bank_of (table_of p) m) (counts_to p mine.memory.shape.dims a (banks_of mine.memory.shape.dims))
+          claims_are = ap (λ o. claims_in p event (first_bank_of (table_of p) m) o a) mine.entry
 
-          banks_are : banks_in (slice_get (table_of p) m) ≡ banks_of mine.memory.shape.dims
-          banks_are = ap banks_in mine.entry
+          banks_are : entry_bank_count (slice_get (table_of p) m) ≡ banks_of mine.memory.shape.dims
+          banks_are = ap entry_bank_count mine.entry
 
           behind : (b c n d t : ℕ) → b + c ≤ n → d ≡ c → b + d ≤ n + t
           behind b c n d t e f = omega (arith, e, f)
@@ -343,11 +343,11 @@ module _ (p : Program) (flags : List Bool) (event k memory number bank : ℕ) (a
           equal : (m n : ℕ) → m ≤ n → n ≤ m → m ≡ n
           equal m n e f = omega (arith, e, f)
 
-          none_of : (slots : (base_of (table_of p) number + bank < base_of (table_of p) m) ⊎ (base_of (table_of p) m + length (counts_to p mine.memory.shape.dims a (banks_of mine.memory.shape.dims)) ≤ base_of (table_of p) number + bank)) → (m ≡ number → ⊥)
-              → all_taken (base_of (table_of p) number + bank) (map (spending_step flags) (claims_at p event (Some m) a)) ≡ charge p memory bank k
+          none_of : (slots : (first_bank_of (table_of p) number + bank < first_bank_of (table_of p) m) ⊎ (first_bank_of (table_of p) m + length (counts_to p mine.memory.shape.dims a (banks_of mine.memory.shape.dims)) ≤ first_bank_of (table_of p) number + bank)) → (m ≡ number → ⊥)
+              → all_taken (first_bank_of (table_of p) number + bank) (map (spending_step flags) (claims_at p event (Some m) a)) ≡ charge p memory bank k
           none_of slots none =
-              ap (λ l. all_taken (base_of (table_of p) number + bank) (map (spending_step flags) l)) claims_are
-              ∙ (claims_outside flags event (is_some (shared p k)) told (base_of (table_of p) m) (base_of (table_of p) number + bank) _ slots ∙ sym (never (other_memory m e none)))
+              ap (λ l. all_taken (first_bank_of (table_of p) number + bank) (map (spending_step flags) l)) claims_are
+              ∙ (claims_outside flags event (is_some (shared p k)) told (first_bank_of (table_of p) m) (first_bank_of (table_of p) number + bank) _ slots ∙ sym (never (other_memory m e none)))
 
           less_never : (m n : ℕ) → m < n → m ≡ n → ⊥
           less_never m n e f = omega (arith, e, f)
@@ -355,21 +355,21 @@ module _ (p : Program) (flags : List Bool) (event k memory number bank : ℕ) (a
           more_never : (m n : ℕ) → n < m → m ≡ n → ⊥
           more_never m n e f = omega (arith, e, f)
 
-          same_number : m ≡ number → all_taken (base_of (table_of p) number + bank) (map (spending_step flags) (claims_at p event (Some m) a)) ≡ charge p memory bank k
+          same_number : m ≡ number → all_taken (first_bank_of (table_of p) number + bank) (map (spending_step flags) (claims_at p event (Some m) a)) ≡ charge p memory bank k
           same_number q =
               let same_memory : mine.memory ≡ memory_is.memory = some_same mine.memory memory_is.memory (sym mine.named ∙ (ap (slice_get (memories_of p)) q ∙ memory_is.named)) in
               let entities : (owner_of p a) ≡ Some memory = one_entity mine.memory.name.entity (owner_of p a) (Some memory) mine.same (ap (λ (x : Memory). same_entity x.name.entity (Some memory)) same_memory ∙ memory_is.same) in
-              let inside : bank < banks_of mine.memory.shape.dims = subst (λ (n : ℕ). bank < n) (ap (λ x. banks_in (slice_get (table_of p) x)) (sym q) ∙ banks_are) there in
-              ap (λ l. all_taken (base_of (table_of p) number + bank) (map (spending_step flags) l)) claims_are
-              ∙ (ap (λ n. all_taken (base_of (table_of p) n + bank) (map (spending_step flags) (claims_from event (base_of (table_of p) m) (counts_to p mine.memory.shape.dims a (banks_of mine.memory.shape.dims))))) (sym q)
-              ∙ (claims_inside flags event (is_some (shared p k)) told (base_of (table_of p) m) bank _ (subst (λ (n : ℕ). bank < n) (sym (counts_long p mine.memory.shape.dims a (banks_of mine.memory.shape.dims))) inside)
+              let inside : bank < banks_of mine.memory.shape.dims = subst (λ (n : ℕ). bank < n) (ap (λ x. entry_bank_count (slice_get (table_of p) x)) (sym q) ∙ banks_are) there in
+              ap (λ l. all_taken (first_bank_of (table_of p) number + bank) (map (spending_step flags) l)) claims_are
+              ∙ (ap (λ n. all_taken (first_bank_of (table_of p) n + bank) (map (spending_step flags) (claims_from event (first_bank_of (table_of p) m) (counts_to p mine.memory.shape.dims a (banks_of mine.memory.shape.dims))))) (sym q)
+              ∙ (claims_inside flags event (is_some (shared p k)) told (first_bank_of (table_of p) m) bank _ (subst (λ (n : ℕ). bank < n) (sym (counts_long p mine.memory.shape.dims a (banks_of mine.memory.shape.dims))) inside)
               ∙ (ap (λ n. if is_some (shared p k) then 0 else n) (count_at p mine.memory.shape.dims a (banks_of mine.memory.shape.dims) bank inside ∙ ap (λ (x : Memory). count_on p (way_to p a.entity) x.shape.dims a bank) same_memory)
               ∙ sym (own (ap (λ o. same_entity o (Some memory)) entities ∙ eq-eqb memory memory refl)))))
 
-          by_place : (m < number) ⊎ (number ≤ m) → (number < m) ⊎ (m ≤ number) → all_taken (base_of (table_of p) number + bank) (map (spending_step flags) (claims_at p event (Some m) a)) ≡ charge p memory bank k
+          by_place : (m < number) ⊎ (number ≤ m) → (number < m) ⊎ (m ≤ number) → all_taken (first_bank_of (table_of p) number + bank) (map (spending_step flags) (claims_at p event (Some m) a)) ≡ charge p memory bank k
           by_place (inl f) g =
-              none_of (inr (behind (base_of (table_of p) m) (banks_in (slice_get (table_of p) m)) (base_of (table_of p) number) _ bank (bases_apart (table_of p) m number f) (counts_long p mine.memory.shape.dims a (banks_of mine.memory.shape.dims) ∙ sym banks_are))) (less_never m number f)
-          by_place (inr f) (inl g) = none_of (inl (ahead (base_of (table_of p) number) (banks_at p number) (base_of (table_of p) m) bank (bases_apart (table_of p) number m g) there)) (more_never m number g)
+              none_of (inr (behind (first_bank_of (table_of p) m) (entry_bank_count (slice_get (table_of p) m)) (first_bank_of (table_of p) number) _ bank (bases_apart (table_of p) m number f) (counts_long p mine.memory.shape.dims a (banks_of mine.memory.shape.dims) ∙ sym banks_are))) (less_never m number f)
+          by_place (inr f) (inl g) = none_of (inl (ahead (first_bank_of (table_of p) number) (memory_bank_count p number) (first_bank_of (table_of p) m) bank (bases_apart (table_of p) number m g) there)) (more_never m number g)
           by_place (inr f) (inr g) = same_number (equal m number g f)
 
 -- the memory of a number has no way

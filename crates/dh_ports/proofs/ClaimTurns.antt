@@ -28,10 +28,10 @@ use Rattle.dh_ports.specs.declared.moves.Layout.{Layout}
 use Rattle.dh_ports.specs.declared.moves.Move.TheVariants as move
 use Rattle.dh_ports.specs.Banks.{bank_at_path, each_below}
 use Rattle.dh_events.specs.Accesses.{entity_in, loops_listed}
-use Rattle.dh_ports.specs.Claims.{base_of, AreBases, keys_on, counts_to, claim_at, claim_in, claims_from, claims_in, claims_at, claims_of, source_of, count_on}
+use Rattle.dh_ports.specs.Claims.{first_bank_of, AreBases, keys_on, counts_to, claim_at, claim_in, claims_from, claims_in, claims_at, claims_of, source_of, count_on}
 use Rattle.dh_ports.specs.Layouts.{IsLayout}
 use Rattle.dh_events.specs.Scopes.{AreScopes}
-use Rattle.dh_ports.specs.Wholes.{banks_in}
+use Rattle.dh_ports.specs.Wholes.{entry_bank_count}
 use Rattle.dh_ports.proofs.ClaimFacts.{counts_long, bases_apart}
 use Rattle.dh_ports.proofs.EachFacts.{each_long}
 use Rattle.dh_ports.proofs.PathNumbers.{each_same}
@@ -121,20 +121,20 @@ module _ (tree : Tree) (event : ℕ) (loops : List Counter) (writes : Bool) (e :
   none_claimed o h f = claims_direct ∙ ap (λ o. claims_at (program_seen tree) event o (source_of loops writes e)) (sym h ∙ f)
 
   module _ (o : Option ℕ) (m : ℕ) (known : o ≡ number_in (memories_of (program_seen tree)) (entity_in (form_seen e.form))) (is : o ≡ Some m) where
-    claims_so : claims_of (program_seen tree) event (source_of loops writes e) ≡ claims_in (program_seen tree) event (base_of (table_of (program_seen tree)) m) (slice_get (table_of (program_seen tree)) m) (source_of loops writes e)
+    claims_so : claims_of (program_seen tree) event (source_of loops writes e) ≡ claims_in (program_seen tree) event (first_bank_of (table_of (program_seen tree)) m) (slice_get (table_of (program_seen tree)) m) (source_of loops writes e)
     claims_so = claims_direct ∙ ap (λ o. claims_at (program_seen tree) event o (source_of loops writes e)) (sym known ∙ is)
 
     -- of a memory that is not there
     pub past_claimed : slice_get (table_of (program_seen tree)) m ≡ None → claims_of (program_seen tree) event (source_of loops writes e) ≡ []
-    past_claimed f = claims_so ∙ ap (λ o. claims_in (program_seen tree) event (base_of (table_of (program_seen tree)) m) o (source_of loops writes e)) f
+    past_claimed f = claims_so ∙ ap (λ o. claims_in (program_seen tree) event (first_bank_of (table_of (program_seen tree)) m) o (source_of loops writes e)) f
 
-    module _ (x : MemEntry) (there : slice_get (table_of (program_seen tree)) m ≡ Some x) (dims : List Dim) (dims_are : dims ≡ x.shape.dims) (base banks : ℕ) (at : base ≡ base_of (table_of (program_seen tree)) m) (counted : banks ≡ banks_of dims) where
+    module _ (x : MemEntry) (there : slice_get (table_of (program_seen tree)) m ≡ Some x) (dims : List Dim) (dims_are : dims ≡ x.shape.dims) (base banks : ℕ) (at : base ≡ first_bank_of (table_of (program_seen tree)) m) (counted : banks ≡ banks_of dims) where
       claims_here : claims_of (program_seen tree) event (source_of loops writes e) ≡ claims_from event base (counts_to (program_seen tree) dims (source_of loops writes e) banks)
       claims_here =
           claims_so
-          ∙ (ap (λ o. claims_in (program_seen tree) event (base_of (table_of (program_seen tree)) m) o (source_of loops writes e)) there
-          ∙ (ap (λ ds. claims_from event (base_of (table_of (program_seen tree)) m) (counts_to (program_seen tree) ds (source_of loops writes e) (banks_of ds))) (sym dims_are)
-          ∙ (ap (λ n. claims_from event (base_of (table_of (program_seen tree)) m) (counts_to (program_seen tree) dims (source_of loops writes e) n)) (sym counted)
+          ∙ (ap (λ o. claims_in (program_seen tree) event (first_bank_of (table_of (program_seen tree)) m) o (source_of loops writes e)) there
+          ∙ (ap (λ ds. claims_from event (first_bank_of (table_of (program_seen tree)) m) (counts_to (program_seen tree) ds (source_of loops writes e) (banks_of ds))) (sym dims_are)
+          ∙ (ap (λ n. claims_from event (first_bank_of (table_of (program_seen tree)) m) (counts_to (program_seen tree) dims (source_of loops writes e) n)) (sym counted)
           ∙ ap (λ n. claims_from event n (counts_to (program_seen tree) dims (source_of loops writes e) banks)) (sym at))))
 
       pub one_claimed : loops ≡ [] → (bank : ℕ) → ((w : Bool) → bank ≡ bank_at_path tree dims (source_of [] w e) []) → claims_of (program_seen tree) event (source_of loops writes e) ≡ claim_in event base banks bank
@@ -186,10 +186,10 @@ module _ (es : List MemEntry) (m : ℕ) (x : MemEntry) (there : slice_get es m �
       found (y ∷ ys) (suc k) h e = found ys k h.1 e
 
   -- the banks of a memory and all before it are few
-  pub slots_few : IsProgramTable es → (base banks : ℕ) (dims : List Dim) → dims ≡ x.shape.dims → base ≡ base_of es m → banks ≡ banks_of dims → base + banks ≤ 2097152
+  pub slots_few : IsProgramTable es → (base banks : ℕ) (dims : List Dim) → dims ≡ x.shape.dims → base ≡ first_bank_of es m → banks ≡ banks_of dims → base + banks ≤ 2097152
   slots_few h base banks dims dims_are at counted =
-      at_most base banks (base_of es m) (banks_of x.shape.dims) (base_of es (suc m)) (elements_in es) at (counted ∙ ap banks_of dims_are)
-      (subst (λ (o : Option MemEntry). base_of es m + banks_in o ≤ base_of es (suc m)) there (bases_apart es m (suc m) (next m)))
+      at_most base banks (first_bank_of es m) (banks_of x.shape.dims) (first_bank_of es (suc m)) (elements_in es) at (counted ∙ ap banks_of dims_are)
+      (subst (λ (o : Option MemEntry). first_bank_of es m + entry_bank_count o ≤ first_bank_of es (suc m)) there (bases_apart es m (suc m) (next m)))
       (base_most es (suc m) h.entries) h.elements
     where
       next : (n : ℕ) → n < suc n
@@ -198,7 +198,7 @@ module _ (es : List MemEntry) (m : ℕ) (x : MemEntry) (there : slice_get es m �
       at_most : (a b c d s n : ℕ) → a ≡ c → b ≡ d → c + d ≤ s → s ≤ n → n ≤ 1048576 → a + b ≤ 2097152
       at_most a b c d s n e f g h i = omega (arith, e, f, g, h, i)
 
-pub base_is : (es : List MemEntry) (bases : List ℕ) (m : ℕ) → AreBases es bases → m < length es → slice_index bases m ≡ base_of es m
+pub base_is : (es : List MemEntry) (bases : List ℕ) (m : ℕ) → AreBases es bases → m < length es → slice_index bases m ≡ first_bank_of es m
 base_is es bases m h inside = h.each m (less m (length es) inside)
   where
     less : (a b : ℕ) → a < b → a ≤ b
@@ -265,7 +265,7 @@ index_found (x ∷ xs) (suc m) d inside = index_found xs m d (less m (length xs)
     less : (k n : ℕ) → suc k < suc n → k < n
     less k n e = omega (arith, e)
 
-pub base_at : (table es : List MemEntry) (bases : List ℕ) (m base : ℕ) → es ≡ table → AreBases table bases → m < length es → base ≡ get_or bases m base → base ≡ base_of table m
+pub base_at : (table es : List MemEntry) (bases : List ℕ) (m base : ℕ) → es ≡ table → AreBases table bases → m < length es → base ≡ get_or bases m base → base ≡ first_bank_of table m
 base_at table es bases m base same h inside is =
     let here : m < length table = subst (λ (l : List MemEntry). m < length l) same inside in
     is ∙ (index_found bases m base (base_there table bases m h here) ∙ base_is table bases m h here)

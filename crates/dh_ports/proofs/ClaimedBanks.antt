@@ -23,8 +23,8 @@ use Rattle.dh_ways.specs.Leading.{LeadsTo, StepsLead, next_dims}
 use Rattle.dh_carried.proofs.ChargedBanks.{charged_reaches, may_below, reaching_charges}
 use Rattle.dh_ports.specs.declared.moves.Move.{Move}
 use Rattle.dh_ports.specs.declared.moves.Move.TheVariants as move
-use Rattle.dh_ports.specs.Claims.{base_of, count_on, counts_to, owner_of, claims_from, claims_in, claims_at, claims_of}
-use Rattle.dh_ports.specs.WritesFound.{can_reach}
+use Rattle.dh_ports.specs.Claims.{first_bank_of, count_on, counts_to, owner_of, claims_from, claims_in, claims_at, claims_of}
+use Rattle.dh_ports.specs.WritesFound.{access_can_reach}
 use Rattle.dh_ports.proofs.ClaimFacts.{Declared, found, counts_long, count_at}
 
 absurd : {A : Type 0} → ⊥ → A
@@ -129,9 +129,9 @@ index_within (x ∷ xs) (suc i) h = more i (length xs) (index_within xs i h)
 pub all_claims : (p : Program) (event : ℕ) (a : SourceAccess) → AllByRecursion (IsClaimOf event) (claims_of p event a)
 all_claims p event a = by_number (number_in (memories_of p) (owner_of p a))
   where
-    by_entry : (m : ℕ) (o : Option MemEntry) → AllByRecursion (IsClaimOf event) (claims_in p event (base_of (table_of p) m) o a)
+    by_entry : (m : ℕ) (o : Option MemEntry) → AllByRecursion (IsClaimOf event) (claims_in p event (first_bank_of (table_of p) m) o a)
     by_entry m None = tt
-    by_entry m (Some e) = from_all event (base_of (table_of p) m) (counts_to p e.shape.dims a (banks_of e.shape.dims))
+    by_entry m (Some e) = from_all event (first_bank_of (table_of p) m) (counts_to p e.shape.dims a (banks_of e.shape.dims))
 
     by_number : (o : Option ℕ) → AllByRecursion (IsClaimOf event) (claims_at p event o a)
     by_number None = tt
@@ -147,7 +147,7 @@ pub record Claimed (p : Program) (slot : ℕ) (a : SourceAccess) : Type 0 where
   pub known : number_in (memories_of p) (Some memory) ≡ Some number
   pub stands : slice_get (table_of p) number ≡ Some entry
   pub within : bank < banks_of entry.shape.dims
-  pub is : slot ≡ base_of (table_of p) number + bank
+  pub is : slot ≡ first_bank_of (table_of p) number + bank
   pub reached : 1 ≤ count_on p (way_to p a.entity) entry.shape.dims a bank
 
 entity_there : (a b : Option ℕ) → same_entity a b ≡ true → (n : ℕ) × (b ≡ Some n)
@@ -158,10 +158,10 @@ entity_there (Some m) (Some n) e = (n, refl)
 pub claimed : (p : Program) (event slot : ℕ) (a : SourceAccess) → Claims slot (claims_of p event a) → Claimed p slot a
 claimed p event slot a h = by_number (number_in (memories_of p) (owner_of p a)) refl h
   where
-    by_entry : (m : ℕ) → number_in (memories_of p) (owner_of p a) ≡ Some m → (o : Option MemEntry) → slice_get (table_of p) m ≡ o → Claims slot (claims_in p event (base_of (table_of p) m) o a) → Claimed p slot a
+    by_entry : (m : ℕ) → number_in (memories_of p) (owner_of p a) ≡ Some m → (o : Option MemEntry) → slice_get (table_of p) m ≡ o → Claims slot (claims_in p event (first_bank_of (table_of p) m) o a) → Claimed p slot a
     by_entry m e None f h = absurd h
     by_entry m e (Some x) f h =
-        let b = from_claims event (base_of (table_of p) m) slot (counts_to p x.shape.dims a (banks_of x.shape.dims)) h in
+        let b = from_claims event (first_bank_of (table_of p) m) slot (counts_to p x.shape.dims a (banks_of x.shape.dims)) h in
         let within : b.0 < banks_of x.shape.dims = subst (λ (n : ℕ). b.0 < n) (counts_long p x.shape.dims a (banks_of x.shape.dims)) (index_within (counts_to p x.shape.dims a (banks_of x.shape.dims)) b.0 b.1.1) in
         let mine = found (memories_of p) (owner_of p a) m e in
         let there = entity_there mine.memory.name.entity (owner_of p a) mine.same in
@@ -185,9 +185,9 @@ claimed p event slot a h = by_number (number_in (memories_of p) (owner_of p a)) 
 pub claims_back : (p : Program) (event slot : ℕ) (a : SourceAccess) → Claimed p slot a → Claims slot (claims_of p event a)
 claims_back p event slot a c =
     subst (λ (o : Option ℕ). Claims slot (claims_at p event o a)) (sym (ap (number_in (memories_of p)) c.named ∙ c.known))
-    (subst (λ (o : Option MemEntry). Claims slot (claims_in p event (base_of (table_of p) c.number) o a)) (sym c.stands)
-    (subst (λ (n : ℕ). Claims n (claims_from event (base_of (table_of p) c.number) (counts_to p c.entry.shape.dims a (banks_of c.entry.shape.dims)))) (sym c.is)
-    (claims_there event (base_of (table_of p) c.number) c.bank (counts_to p c.entry.shape.dims a (banks_of c.entry.shape.dims)) (subst (λ (n : ℕ). 1 ≤ n) (sym (count_at p c.entry.shape.dims a (banks_of c.entry.shape.dims) c.bank c.within)) c.reached))))
+    (subst (λ (o : Option MemEntry). Claims slot (claims_in p event (first_bank_of (table_of p) c.number) o a)) (sym c.stands)
+    (subst (λ (n : ℕ). Claims n (claims_from event (first_bank_of (table_of p) c.number) (counts_to p c.entry.shape.dims a (banks_of c.entry.shape.dims)))) (sym c.is)
+    (claims_there event (first_bank_of (table_of p) c.number) c.bank (counts_to p c.entry.shape.dims a (banks_of c.entry.shape.dims)) (subst (λ (n : ℕ). 1 ≤ n) (sym (count_at p c.entry.shape.dims a (banks_of c.entry.shape.dims) c.bank c.within)) c.reached))))
 
 -- Keys that are there.
 
@@ -315,7 +315,7 @@ pub record Reaching (p : Program) (a : SourceAccess) (memory bank : ℕ) : Type 
   pub within : bank < banks_of owner.shape.dims
   pub reached : 1 ≤ count_on p (way_to p a.entity) owner.shape.dims a bank
 
-pub reaching : (p : Program) (a : SourceAccess) (memory bank : ℕ) → Bounds p a → can_reach p a memory bank ≡ true → Reaching p a memory bank
+pub reaching : (p : Program) (a : SourceAccess) (memory bank : ℕ) → Bounds p a → access_can_reach p a memory bank ≡ true → Reaching p a memory bank
 reaching p a memory bank b e = by_way (way_to p a.entity) refl
   where
     at : (path : Path) × (IsPathAmong path (paths_of a) × (reaches p a path memory bank ≡ true))
@@ -371,11 +371,11 @@ reaching p a memory bank b e = by_way (way_to p a.entity) refl
     by_way None u = directly u (memory_in (memories_of p) (Some memory)) refl
     by_way (Some w) u = through w u
 
-abbrev pub reaching_claims : (p : Program) (a : SourceAccess) (memory bank : ℕ) (r : Reaching p a memory bank) → Claimed p (base_of (table_of p) r.number + bank) a
+abbrev pub reaching_claims : (p : Program) (a : SourceAccess) (memory bank : ℕ) (r : Reaching p a memory bank) → Claimed p (first_bank_of (table_of p) r.number + bank) a
 reaching_claims p a memory bank r = record { memory = memory; number = r.number; bank = bank; entry = entry_of r.owner; named = r.named; known = r.known; stands = r.stands; within = r.within; is = refl; reached = r.reached }
 
 -- what is charged through views may be reached
-through_reach : (p : Program) (a : SourceAccess) (w : Way) (memory bank : ℕ) → way_to p a.entity ≡ Some w → w.memory ≡ Some memory → (dims : List Dim) → StepsLead w.steps dims → bank < banks_of dims → 1 ≤ charge_through p w a bank → can_reach p a memory bank ≡ true
+through_reach : (p : Program) (a : SourceAccess) (w : Way) (memory bank : ℕ) → way_to p a.entity ≡ Some w → w.memory ≡ Some memory → (dims : List Dim) → StepsLead w.steps dims → bank < banks_of dims → 1 ≤ charge_through p w a bank → access_can_reach p a memory bank ≡ true
 through_reach p a w memory bank u name dims lead below some =
     let r = charged_reaches p w a dims bank lead below some in
     there_path (λ path. reaches p a path memory bank) (paths_of a) r.path r.there
@@ -387,7 +387,7 @@ some_same : {A : Type 0} (x y : A) → Some x ≡ Some y → x ≡ y
 some_same x y e = cc
 
 -- what is claimed is reached
-pub claimed_reaches : (p : Program) (slot : ℕ) (a : SourceAccess) (c : Claimed p slot a) → Bounds p a → can_reach p a c.memory c.bank ≡ true
+pub claimed_reaches : (p : Program) (slot : ℕ) (a : SourceAccess) (c : Claimed p slot a) → Bounds p a → access_can_reach p a c.memory c.bank ≡ true
 claimed_reaches p slot a c b = by_way (way_to p a.entity) refl
   where
     mine : Declared (memories_of p) (Some c.memory) c.number
@@ -396,7 +396,7 @@ claimed_reaches p slot a c b = by_way (way_to p a.entity) refl
     same : c.entry ≡ entry_of mine.memory
     same = some_same c.entry (entry_of mine.memory) (sym c.stands ∙ mine.entry)
 
-    by_way : (w : Option Way) → way_to p a.entity ≡ w → can_reach p a c.memory c.bank ≡ true
+    by_way : (w : Option Way) → way_to p a.entity ≡ w → access_can_reach p a c.memory c.bank ≡ true
     by_way None u =
         any_same (λ path. reaches p a path c.memory c.bank) (λ path. bank_reached (counters_of p) mine.memory.shape.dims a path a.element == c.bank) (paths_of a) (λ path. reaches_is p a path c.memory c.bank mine.memory u (sym (ap (λ w. ways.base_of w a.entity) u) ∙ c.named) mine.is)
         ∙ some_kept same_path (key_of (all_bindings_of p) a) (λ path. bank_reached (counters_of p) mine.memory.shape.dims a path a.element == c.bank) (paths_of a)
@@ -409,10 +409,10 @@ claimed_reaches p slot a c b = by_way (way_to p a.entity) refl
         through_reach p a w c.memory c.bank u name l.leads.memory.shape.dims l.leads.steps below (subst (λ (w : Option Way). 1 ≤ count_on p w c.entry.shape.dims a c.bank) u c.reached)
 
 -- and what is charged
-pub charged_reach : (p : Program) (a : SourceAccess) (memory bank : ℕ) → Bounds p a → 1 ≤ charge_by p (way_to p a.entity) a memory bank → can_reach p a memory bank ≡ true
+pub charged_reach : (p : Program) (a : SourceAccess) (memory bank : ℕ) → Bounds p a → 1 ≤ charge_by p (way_to p a.entity) a memory bank → access_can_reach p a memory bank ≡ true
 charged_reach p a memory bank b some = by_way (way_to p a.entity) refl (subst (λ (n : ℕ). 1 ≤ n) refl some)
   where
-    by_way : (w : Option Way) → way_to p a.entity ≡ w → 1 ≤ charge_by p w a memory bank → can_reach p a memory bank ≡ true
+    by_way : (w : Option Way) → way_to p a.entity ≡ w → 1 ≤ charge_by p w a memory bank → access_can_reach p a memory bank ≡ true
     by_way None u h = some_kept same_path (key_of (all_bindings_of p) a) (λ path. reaches p a path memory bank) (paths_of a) h
     by_way (Some w) u h =
         let l = b.ways_lead w u in

@@ -5,20 +5,20 @@ use Rattle.dh_ports.specs.declared.moves.Move.TheVariants as move
 use Rattle.dh_ports.specs.Banks.{each_below}
 use Rattle.dh_ports.specs.Carriers.{carried_to, one_at}
 use Rattle.dh_ports.specs.Claims.{claim_at, claims_from}
-use Rattle.dh_ports.specs.Runs.{row_of, row_to}
+use Rattle.dh_ports.specs.Runs.{moves_in_row, row_to}
 use Rattle.dh_ports.proofs.ClaimTurns.{claims_last}
 use Rattle.dh_ports.proofs.EachFacts.{each_long}
 use Rattle.dh_ports.proofs.RunTurns.{more_row}
 use Rattle.dh_ports.proofs.ThroughClaims.{one_carried}
 
 -- one key on each bank, and none
-even_row : (event base : ℕ) (f : ℕ → ℕ) → ((bank : ℕ) → f bank ≡ 1) → (n : ℕ) → claims_from event base (each_below f n) ≡ row_of (move.Claim event base 1) base n
+even_row : (event base : ℕ) (f : ℕ → ℕ) → ((bank : ℕ) → f bank ≡ 1) → (n : ℕ) → claims_from event base (each_below f n) ≡ moves_in_row (move.Claim event base 1) base n
 even_row event base f ones zero = refl
 even_row event base f ones (suc n) =
     claims_last event base (each_below f n) (f n)
     ∙ (ap (λ l. l ++ claim_at event (base + length (each_below f n)) (f n)) (even_row event base f ones n)
-    ∙ (ap (λ k. row_of (move.Claim event base 1) base n ++ claim_at event (base + k) (f n)) (each_long f n)
-    ∙ (ap (λ k. row_of (move.Claim event base 1) base n ++ claim_at event (base + n) k) (ones n)
+    ∙ (ap (λ k. moves_in_row (move.Claim event base 1) base n ++ claim_at event (base + k) (f n)) (each_long f n)
+    ∙ (ap (λ k. moves_in_row (move.Claim event base 1) base n ++ claim_at event (base + n) k) (ones n)
     ∙ sym (more_row (move.Claim event base 1) base n))))
 
 no_row : (event base : ℕ) (f : ℕ → ℕ) → ((bank : ℕ) → f bank ≡ 0) → (n : ℕ) → claims_from event base (each_below f n) ≡ []
@@ -39,7 +39,7 @@ module _ (k : Carrier) (event base bank : ℕ) (within : Bool) (even : k.evenly 
   pub even_claims : (many : ℕ) → within ≡ true → many ≡ length k.sources.items → row_to (move.Claim event base 1) (base + many) ≡ claims_from event base (each_below (carried_to k (one_at bank)) (length k.sources.items))
   even_claims many is long =
       let all : base + many - base ≡ many = omega arith in
-      ap (row_of (move.Claim event base 1) base) (all ∙ long)
+      ap (moves_in_row (move.Claim event base 1) base) (all ∙ long)
       ∙ sym (even_row event base (carried_to k (one_at bank)) (carried true is) (length k.sources.items))
 
   pub no_claims : within ≡ false → claims_from event base (each_below (carried_to k (one_at bank)) (length k.sources.items)) ≡ []

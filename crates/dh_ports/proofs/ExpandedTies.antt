@@ -5,15 +5,15 @@ use Rattle.std.proofs.lemmas.Bool.{eqb-true, eq-eqb, cases_Bool, cases_lt}
 use Rattle.dh_ports.specs.declared.levels.Step.{Step}
 use Rattle.dh_ports.specs.declared.levels.Step.TheVariants as step
 use Rattle.dh_events.specs.Incidents.{PortEvent, touches, assigned, arm_begins, arm_ends, begins, next, ends}
-use Rattle.dh_ports.specs.Levels.{Level, level, begun, kept_back, settled, taken, advance, left_before, lefts_of}
-use Rattle.dh_ports.specs.Courses.{count, less, before_at}
+use Rattle.dh_ports.specs.Levels.{Level, slot_level, begun, kept_back, settled_slot_level, taken, advance, left_before, left_before_each}
+use Rattle.dh_ports.specs.Courses.{access_count, less, before_at}
 use Rattle.dh_ports.specs.Expanded.{level_behind, taken_by, all_taken, IsTaking, AreTaking, expand, steps_before}
 
 absurd : {A : Type 0} → ⊥ → A
 absurd e = elim e [ ]
 
 -- the level before each step
-pub left_at : (levels : ℕ → Level) (ss : List Step) (i : ℕ) (s : Step) → slice_get ss i ≡ Some s → slice_get (lefts_of levels ss) i ≡ Some (left_before s (λ slot. level_behind slot (levels slot) (take i ss)))
+pub left_at : (levels : ℕ → Level) (ss : List Step) (i : ℕ) (s : Step) → slice_get ss i ≡ Some s → slice_get (left_before_each levels ss) i ≡ Some (left_before s (λ slot. level_behind slot (levels slot) (take i ss)))
 left_at levels [] i s e = cc
 left_at levels (x ∷ ss) zero s e = let same : x ≡ s = some_is x s e in ap (λ y. Some (left_before y levels)) same
   where
@@ -35,19 +35,19 @@ one_taken : (slot : ℕ) (s : Step) (l : Level) → IsTaking s → advance slot 
 one_taken slot (step.Access other takes) l i = by_test (cases_Bool (other == slot))
   where
     by_test : ((other == slot) ≡ true) ⊎ ((other == slot) ≡ false) → taken other takes slot l ≡ less (if other == slot then takes else 0) l
-    by_test (inl e) = ap (λ b. if b then level (l.now - takes) l.base l.low l.outer else l) e ∙ sym (ap (λ b. less (if b then takes else 0) l) e)
-    by_test (inr e) = ap (λ b. if b then level (l.now - takes) l.base l.low l.outer else l) e ∙ (ap (λ n. level n l.base l.low l.outer) (none_less l.now) ∙ sym (ap (λ b. less (if b then takes else 0) l) e))
-one_taken slot step.Other l i = ap (λ n. level n l.base l.low l.outer) (none_less l.now)
+    by_test (inl e) = ap (λ b. if b then slot_level (l.now - takes) l.base l.low l.outer else l) e ∙ sym (ap (λ b. less (if b then takes else 0) l) e)
+    by_test (inr e) = ap (λ b. if b then slot_level (l.now - takes) l.base l.low l.outer else l) e ∙ (ap (λ n. slot_level n l.base l.low l.outer) (none_less l.now) ∙ sym (ap (λ b. less (if b then takes else 0) l) e))
+one_taken slot step.Other l i = ap (λ n. slot_level n l.base l.low l.outer) (none_less l.now)
 one_taken slot step.Begin l i = absurd i
 one_taken slot step.Next l i = absurd i
 one_taken slot step.End l i = absurd i
 one_taken slot step.Back l i = absurd i
 
 pub steps_taken : (slot : ℕ) (ss : List Step) (l : Level) → AreTaking ss → level_behind slot l ss ≡ less (all_taken slot ss) l
-steps_taken slot [] l i = ap (λ n. level n l.base l.low l.outer) (none_less l.now)
+steps_taken slot [] l i = ap (λ n. slot_level n l.base l.low l.outer) (none_less l.now)
 steps_taken slot (s ∷ ss) l i =
     ap (λ m. level_behind slot m ss) (one_taken slot s l i.0)
-    ∙ (steps_taken slot ss (less (taken_by slot s) l) i.1 ∙ ap (λ n. level n l.base l.low l.outer) (two l.now (taken_by slot s) (all_taken slot ss)))
+    ∙ (steps_taken slot ss (less (taken_by slot s) l) i.1 ∙ ap (λ n. slot_level n l.base l.low l.outer) (two l.now (taken_by slot s) (all_taken slot ss)))
 
 taking_taken : (ss : List Step) (j : ℕ) → AreTaking ss → AreTaking (take j ss)
 taking_taken [] zero i = tt
@@ -111,7 +111,7 @@ module _ (f : ℕ → List Step) (taking : (k : ℕ) → AreTaking (f k)) (slot 
     pub stands : slice_get (expand f n xs) i ≡ Some s
     pub left : all_taken slot (take j (f k)) ≡ 0 → (level_behind slot l (take i (expand f n xs))).now ≡ before_at takes_of n l xs k
 
-  pub placed : (n : ℕ) (l : Level) (xs : List PortEvent) (k j : ℕ) (s : Step) (i : ℕ) → n ≤ k → k < n + count xs → slice_get (f k) j ≡ Some s → i ≡ steps_before f n xs k + j → Placed n l xs k j s i
+  pub placed : (n : ℕ) (l : Level) (xs : List PortEvent) (k j : ℕ) (s : Step) (i : ℕ) → n ≤ k → k < n + access_count xs → slice_get (f k) j ≡ Some s → i ≡ steps_before f n xs k + j → Placed n l xs k j s i
   placed n l [] k j s i least most is at = absurd (none n k least most)
     where
       none : (n k : ℕ) → n ≤ k → k < n + 0 → ⊥
@@ -132,7 +132,7 @@ module _ (f : ℕ → List Step) (taking : (k : ℕ) → AreTaking (f k)) (slot 
       grouped a b c = omega arith
 
       by_test : ((n == k) ≡ true) ⊎ ((n == k) ≡ false)
-          → ((m : ℕ) → suc n ≤ k → k < suc n + count xs → m ≡ steps_before f (suc n) xs k + j → Placed (suc n) (less (takes_of n) l) xs k j s m)
+          → ((m : ℕ) → suc n ≤ k → k < suc n + access_count xs → m ≡ steps_before f (suc n) xs k + j → Placed (suc n) (less (takes_of n) l) xs k j s m)
           → Placed n l (touches t w site ∷ xs) k j s i
       by_test (inl e) rest =
           let same : n ≡ k = eqb-true n k e in
@@ -148,7 +148,7 @@ module _ (f : ℕ → List Step) (taking : (k : ℕ) → AreTaking (f k)) (slot 
                 ∙ (sym (none_less l.now) ∙ sym (ap (λ b. if b then l.now else before_at takes_of (suc n) (less (takes_of n) l) xs k) e)))));
           }
       by_test (inr e) rest =
-          let m = more n k (count xs) least (λ q. other q e) most in
+          let m = more n k (access_count xs) least (λ q. other q e) most in
           let at_rest : i ≡ length (f n) + (steps_before f (suc n) xs k + j) = at ∙ (ap (λ b. (if b then 0 else length (f n) + steps_before f (suc n) xs k) + j) e ∙ grouped (length (f n)) (steps_before f (suc n) xs k) j) in
           let r = rest (steps_before f (suc n) xs k + j) m.0 m.1 refl in
           record {
@@ -182,7 +182,7 @@ module _ (f : ℕ → List Step) (taking : (k : ℕ) → AreTaking (f k)) (slot 
         stands = ap (slice_get (step.Next ∷ expand f n xs)) e ∙ r.stands;
         left = λ free. ap (λ v. (level_behind slot l (take v (step.Next ∷ expand f n xs))).now) e ∙ r.left free;
       }
-  placed n l (ends ∷ xs) k j s i a b is at = behind_one (steps_before f n xs k + j) (at ∙ next_one _ _) (placed n (settled (kept_back l)) xs k j s (steps_before f n xs k + j) a b is refl)
+  placed n l (ends ∷ xs) k j s i a b is at = behind_one (steps_before f n xs k + j) (at ∙ next_one _ _) (placed n (settled_slot_level (kept_back l)) xs k j s (steps_before f n xs k + j) a b is refl)
     where
       next_one : (x y : ℕ) → suc x + y ≡ suc (x + y)
       next_one x y = omega arith

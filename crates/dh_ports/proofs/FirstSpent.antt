@@ -9,7 +9,7 @@ use Rattle.dh_meets.specs.Charges.{charge}
 use Rattle.dh_meets.specs.MayMeet.{meets_in}
 use Rattle.dh_meets.specs.Ports.{ports_of_entity, place_in, KeepsPorts, PortsSpent}
 use Rattle.dh_tree.proofs.LargestSums.{before_left, upto_first, upto_second, upto_one_first, upto_one_second, load_is_largest, upto_is_largest}
-use Rattle.dh_ports.specs.Spent.{Spends}
+use Rattle.dh_ports.specs.Spent.{AccessOverspends}
 use Rattle.dh_ports.proofs.Wholes.{whole}
 
 absurd : {A : Type 0} → ⊥ → A
@@ -116,7 +116,7 @@ module _ (p : Program) where
   above a b n e f = omega (arith, e, f)
 
   -- a program of which no access is such keeps its ports
-  pub none_spends : ((k : ℕ) → In k (meets_in p) → Spends p k → ⊥) → KeepsPorts p
+  pub none_spends : ((k : ℕ) → In k (meets_in p) → AccessOverspends p k → ⊥) → KeepsPorts p
   none_spends none chosen together memory bank =
       elim (cases_lt (ports_of_entity p memory) (total (charge p memory bank) chosen (meets_in p))) [
         | inl over ↦ let x = load_exceeds (charge p memory bank) (ports_of_entity p memory) (meets_in p) (whole p).distinct (above _ _ _ over ((load_is_largest (charge p memory bank) (meets_in p) (whole p).distinct).most chosen together)) in
@@ -125,7 +125,7 @@ module _ (p : Program) where
       ]
 
   -- and where one is, the first of them is where ports are spent
-  pub first_spends : (k : ℕ) (place : Place) → place_in p k ≡ Some place → In k (meets_in p) → Spends p k → ((x : ℕ) → x < k → Spends p x → ⊥) → PortsSpent p place
+  pub first_spends : (k : ℕ) (place : Place) → place_in p k ≡ Some place → In k (meets_in p) → AccessOverspends p k → ((x : ℕ) → x < k → AccessOverspends p x → ⊥) → PortsSpent p place
   first_spends k place stands inside s earlier =
       let reached = (upto_is_largest (charge p s.memory s.bank) (meets_in p) k (whole p).distinct inside).attained in
       record {

@@ -20,7 +20,7 @@ use Rattle.dh_ports.specs.declared.moves.Move.{Move}
 use Rattle.dh_events.specs.Accesses.{loops_listed}
 use Rattle.dh_ports.specs.Claims.{moves_from}
 use Rattle.dh_ports.specs.Copies.{copies_round}
-use Rattle.dh_ports.specs.Courses.{count}
+use Rattle.dh_ports.specs.Courses.{access_count}
 use Rattle.dh_events.specs.declared.events.Notes.{Notes}
 use Rattle.dh_events.specs.declared.structures.Structure.{Structure}
 use Rattle.dh_events.specs.Elements.{AreReads, no_clocks, IsNoted}
@@ -28,7 +28,7 @@ use Rattle.dh_events.specs.Incidents.{PortEvent, touches, assigned, arm_begins, 
 use Rattle.dh_ports.specs.EventMoves.{moves_known}
 use Rattle.dh_ports.specs.Layouts.{IsLayout, HaveFewCopies}
 use Rattle.dh_events.specs.Noted.{event_seen, all_seen}
-use Rattle.dh_ports.specs.Scanned.{is_late, late_at, place_in, all_late, spent_place, spent_at, FindsLate, KeepsLate}
+use Rattle.dh_ports.specs.Scanned.{is_late, late_at, move_place, all_late, spent_place, ports_spent_breach, FindsLate, KeepsLate}
 use Rattle.dh_events.specs.Stages.{stages_in}
 use Rattle.dh_events.specs.Structures.{StructuresAreDistinct}
 use Rattle.dh_events.specs.Tables.{table_at}
@@ -67,8 +67,8 @@ late_reads whole (m ∷ ms) [] ls b c = absurd (nothing_in b c)
 late_reads whole (m ∷ ms) (s ∷ ss) [] b c = absurd (nothing_in b c)
 late_reads whole (m ∷ ms) (s ∷ ss) (l ∷ ls) b c = by_test (is_late s l) c (late_reads whole ms ss ls b)
   where
-    by_test : (t : Bool) → Contains (if t then late_at (place_in whole m) ++ all_late whole ms ss ls else all_late whole ms ss ls) b → (Contains (all_late whole ms ss ls) b → b ≡ breach rule.ReadAfterWrite b.place) → b ≡ breach rule.ReadAfterWrite b.place
-    by_test true c rest = elim (Contains-append_cases (late_at (place_in whole m)) (all_late whole ms ss ls) b c) [ inl d ↦ one_late (place_in whole m) b d | inr d ↦ rest d ]
+    by_test : (t : Bool) → Contains (if t then late_at (move_place whole m) ++ all_late whole ms ss ls else all_late whole ms ss ls) b → (Contains (all_late whole ms ss ls) b → b ≡ breach rule.ReadAfterWrite b.place) → b ≡ breach rule.ReadAfterWrite b.place
+    by_test true c rest = elim (Contains-append_cases (late_at (move_place whole m)) (all_late whole ms ss ls) b c) [ inl d ↦ one_late (move_place whole m) b d | inr d ↦ rest d ]
     by_test false c rest = rest c
 
 module _ (p : Program) (late : List Breach) (tells : TellsLate p late) (only : (b : Breach) → Contains late b → b ≡ breach rule.ReadAfterWrite b.place) where
@@ -119,7 +119,7 @@ module _ (p : Program) (late : List Breach) (tells : TellsLate p late) (only : (
           less : (k n : ℕ) → suc k < suc n → k < n
           less k n e = omega (arith, e)
 
-  first_told : (place : Option Place) → TellsSpent p place → (o : Option Breach) → least_of (spent_at place) late ≡ o → TellsFirst p o
+  first_told : (place : Option Place) → TellsSpent p place → (o : Option Breach) → least_of (ports_spent_breach place) late ≡ o → TellsFirst p o
   first_told None s o e = kept_told s o e
   first_told (Some place) s o e = spent_told_by place s o e
 
@@ -127,7 +127,7 @@ module _ (p : Program) (late : List Breach) (tells : TellsLate p late) (only : (
 
 found_first : (p : Program) (events : List Event) (flags : List Bool) (moves : List Move) → moves ≡ moves_from p (loops_known p) 0 (all_seen events)
     → TellsSpent p (spent_place (table_of p) events flags (moves_from p (loops_known p) 0 (all_seen events))) → ((late : List Breach) → FindsLate events (moves_from p (loops_known p) 0 (all_seen events)) late → TellsLate p late)
-    → (place : Option Place) → place ≡ spent_place (table_of p) events flags moves → (old new : Option Breach) → old ≡ spent_at place → KeepsLate events moves old new → TellsFirst p new
+    → (place : Option Place) → place ≡ spent_place (table_of p) events flags moves → (old new : Option Breach) → old ≡ ports_spent_breach place → KeepsLate events moves old new → TellsFirst p new
 found_first p events flags moves moves_are tells_spent tells_late place place_is old new old_is kept =
     let late_finds : FindsLate events (moves_from p (loops_known p) 0 (all_seen events)) kept.late = subst (λ (ms : List Move). FindsLate events ms kept.late) moves_are kept.found in
     let spent : TellsSpent p place = subst (λ (o : Option Place). TellsSpent p o) (sym (place_is ∙ ap (λ ms. spent_place (table_of p) events flags ms) moves_are)) tells_spent in
@@ -143,16 +143,16 @@ layout_loops p layout l = fun_ext each
     each (Some id) = ap (λ (f : ℕ → List Counter). f id) l.rounds
 
 -- the number of an access by its event
-number_at : (xs : List PortEvent) (i : ℕ) (t : Term) (w : Bool) (s : Site) → slice_get xs i ≡ Some (touches t w s) → (k : ℕ) × ((slice_get (sites_in xs) k ≡ Some s) × (k < count xs))
+number_at : (xs : List PortEvent) (i : ℕ) (t : Term) (w : Bool) (s : Site) → slice_get xs i ≡ Some (touches t w s) → (k : ℕ) × ((slice_get (sites_in xs) k ≡ Some s) × (k < access_count xs))
 number_at [] i t w s e = cc
-number_at (touches u v z ∷ xs) zero t w s e = (0, (ap (λ x. Some x) (site_same u t v w z s (some_same _ _ e)), some (count xs)))
+number_at (touches u v z ∷ xs) zero t w s e = (0, (ap (λ x. Some x) (site_same u t v w z s (some_same _ _ e)), some (access_count xs)))
   where
     site_same : (u t : Term) (v w : Bool) (z s : Site) → touches u v z ≡ touches t w s → z ≡ s
     site_same u t v w z s e = cc
 
     some : (n : ℕ) → 0 < suc n
     some n = omega arith
-number_at (touches u v z ∷ xs) (suc i) t w s e = let r = number_at xs i t w s e in (suc r.0, (r.1.0, more r.0 (count xs) r.1.1))
+number_at (touches u v z ∷ xs) (suc i) t w s e = let r = number_at xs i t w s e in (suc r.0, (r.1.0, more r.0 (access_count xs) r.1.1))
   where
     more : (k n : ℕ) → k < n → suc k < suc n
     more k n e = omega (arith, e)
@@ -210,6 +210,6 @@ are_events p notes events events_are seen keys keys_are distinct noted = record 
 -- the first breach, as the code finds it
 pub first_done : (p : Program) (events : List Event) (layout : Layout) → IsLayout p layout → (flags : List Bool) → TellsSpent p (spent_place (table_of p) events flags (moves_from p (loops_known p) 0 (all_seen events)))
     → ((late : List Breach) → FindsLate events (moves_from p (loops_known p) 0 (all_seen events)) late → TellsLate p late)
-    → (place : Option Place) → place ≡ spent_place (table_of p) events flags (moves_known p layout events) → (old new : Option Breach) → old ≡ spent_at place → KeepsLate events (moves_known p layout events) old new → TellsFirst p new
+    → (place : Option Place) → place ≡ spent_place (table_of p) events flags (moves_known p layout events) → (old new : Option Breach) → old ≡ ports_spent_breach place → KeepsLate events (moves_known p layout events) old new → TellsFirst p new
 first_done p events layout l flags tells_spent tells_late place place_is old new old_is kept =
     found_first p events flags (moves_known p layout events) (ap (λ (f : Option ℕ → List Counter). moves_from p f 0 (all_seen events)) (layout_loops p layout l)) tells_spent tells_late place place_is old new old_is kept

@@ -26,7 +26,7 @@ use Rattle.dh_ports.specs.Banks.{each_below, path_of_number}
 use Rattle.dh_shape.specs.Classified.{loops_in}
 use Rattle.dh_ports.specs.Carriers.{carried_to, group_sum, sum_below, AreGroupSums, Carries}
 use Rattle.dh_ports.specs.Claims.{source_of}
-use Rattle.dh_ports.specs.Copies.{keys_from, stride_in, Reaches}
+use Rattle.dh_ports.specs.Copies.{key_count_from, stride_in, IsAccessReach}
 use Rattle.dh_ports.proofs.CarrierMade.{zero_at, zeros_long}
 use Rattle.dh_ports.proofs.EachFacts.{each_mapped, each_told}
 use Rattle.dh_ports.proofs.PathBlocks.{blocks_unique, copies_split, filter_block, filter_both, paths_apart, stride_is, take_path}
@@ -87,7 +87,7 @@ pub none_sums : (p : Program) (w : Way) (a : SourceAccess) (n many : ℕ) (sums 
 none_sums p w a n many sums none e so =
     each_told (charge_through p w a) many sums (ap length so ∙ (zeros_long n ∙ e)) (λ bank inside. ap (λ l. slice_index l bank) so ∙ (zero_at n bank ∙ sym (none_charged p w a bank none)))
 
-module _ (tree : Tree) (scopes : List (Option Scope)) (loops : List Counter) (dims : List Dim) (access : Expr) (writes : Bool) (reach : Reach) (so : Reaches scopes tree loops dims access writes reach) (are : AreScopes (all_bindings_of (program_seen tree)) scopes)
+module _ (tree : Tree) (scopes : List (Option Scope)) (loops : List Counter) (dims : List Dim) (access : Expr) (writes : Bool) (reach : Reach) (so : IsAccessReach scopes tree loops dims access writes reach) (are : AreScopes (all_bindings_of (program_seen tree)) scopes)
     (one : 1 ≤ reach.paths.count) (w : Way) (named : dims ≡ w.is.shape.dims) where
   some : 1 ≤ copies_in (loop_factors loops)
   some = subst (λ (n : ℕ). 1 ≤ n) so.paths.count one
@@ -115,7 +115,7 @@ module _ (tree : Tree) (scopes : List (Option Scope)) (loops : List Counter) (di
 
   -- the keys of a group are those of its block
   keys_of_group : (group bank : ℕ) → group < copies_in (take w.shifts (loop_factors loops))
-      → keys_in_group (program_seen tree) w (source_of loops writes access) (path_of_number (take w.shifts (loop_factors loops)) group) bank ≡ keys_from reach (group * copies_in (drop w.shifts (loop_factors loops))) (copies_in (drop w.shifts (loop_factors loops))) bank
+      → keys_in_group (program_seen tree) w (source_of loops writes access) (path_of_number (take w.shifts (loop_factors loops)) group) bank ≡ key_count_from reach (group * copies_in (drop w.shifts (loop_factors loops))) (copies_in (drop w.shifts (loop_factors loops))) bank
   keys_of_group group bank below =
       ap (λ l. distinct_count same_path (map (key_of (all_bindings_of (program_seen tree)) (source_of loops writes access)) l))
       (filter_both (λ path. same_path (take w.shifts path) (path_of_number (take w.shifts (loop_factors loops)) group)) (λ path. bank_named (program_seen tree) w (source_of loops writes access) path == bank) (paths_of (source_of loops writes access))
@@ -162,7 +162,7 @@ module _ (tree : Tree) (scopes : List (Option Scope)) (loops : List Counter) (di
     charge_is c carries bank inside =
         ap (λ n. group_sum reach c n groups bank) stride_so
         ∙ (ap (λ n. group_sum reach c (copies_in (drop w.shifts (loop_factors loops))) n bank) groups_so
-        ∙ (sum_same (λ group. carried_to c (keys_from reach (group * copies_in (drop w.shifts (loop_factors loops))) (copies_in (drop w.shifts (loop_factors loops)))) bank)
+        ∙ (sum_same (λ group. carried_to c (key_count_from reach (group * copies_in (drop w.shifts (loop_factors loops))) (copies_in (drop w.shifts (loop_factors loops)))) bank)
         (λ group. carried_by (map (λ s. s.is) w.steps) (keys_in_group (program_seen tree) w (source_of loops writes access) (path_of_number (take w.shifts (loop_factors loops)) group)) bank) (copies_in (take w.shifts (loop_factors loops)))
         (λ group below. sym (
         carries.each (keys_in_group (program_seen tree) w (source_of loops writes access) (path_of_number (take w.shifts (loop_factors loops)) group)) bank inside

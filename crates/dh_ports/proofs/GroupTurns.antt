@@ -7,7 +7,7 @@ use Rattle.dh_events.proofs.Turns.{index_set}
 use Rattle.dh_ports.specs.declared.carrying.Carrier.{Carrier}
 use Rattle.dh_ports.specs.declared.copies.Reach.{Reach}
 use Rattle.dh_ports.specs.Carriers.{carried_to, group_sum, AddsCarried, AreGroupSums}
-use Rattle.dh_ports.specs.Copies.{keys_from, AreCounts}
+use Rattle.dh_ports.specs.Copies.{key_count_from, AreKeyCounts}
 use Rattle.dh_ports.proofs.CarriedBanks.{largest_below, largest_same}
 use Rattle.dh_ports.proofs.CarrierMade.{zero_at, zeros_long}
 use Rattle.dh_ports.proofs.ClaimTurns.{index_found}
@@ -163,23 +163,23 @@ module _ (reach : Reach) (c : Carrier) (stride : ℕ) (within : (bank : ℕ) →
   pub sums_none : (n : ℕ) (sums : List ℕ) → n ≡ length c.sources.items → sums ≡ replicate n 0 → AreGroupSums reach c stride 0 sums
   sums_none n sums many e = record { long = ap length e ∙ (zeros_long n ∙ many); each = λ bank inside. ap (λ l. slice_index l bank) e ∙ zero_at n bank }
 
-  one_group : (group bank : ℕ) → bank < length c.sources.items → carried_to c (keys_from reach (group * stride) stride) bank ≤ stride
-  one_group group bank inside = carried_most c (keys_from reach (group * stride) stride) bank stride (within bank inside) (λ b e. keys_from_most reach (group * stride) stride b)
+  one_group : (group bank : ℕ) → bank < length c.sources.items → carried_to c (key_count_from reach (group * stride) stride) bank ≤ stride
+  one_group group bank inside = carried_most c (key_count_from reach (group * stride) stride) bank stride (within bank inside) (λ b e. keys_from_most reach (group * stride) stride b)
 
-  carried_of : (group : ℕ) (counts : List ℕ) (bank : ℕ) → bank < length c.sources.items → AreCounts reach (group * stride) stride c.banks counts → carried_to c (slice_index counts) bank ≡ carried_to c (keys_from reach (group * stride) stride) bank
-  carried_of group counts bank inside are = carried_same c (slice_index counts) (keys_from reach (group * stride) stride) bank (within bank inside) are.each
+  carried_of : (group : ℕ) (counts : List ℕ) (bank : ℕ) → bank < length c.sources.items → AreKeyCounts reach (group * stride) stride c.banks counts → carried_to c (slice_index counts) bank ≡ carried_to c (key_count_from reach (group * stride) stride) bank
+  carried_of group counts bank inside are = carried_same c (slice_index counts) (key_count_from reach (group * stride) stride) bank (within bank inside) are.each
 
-  pub sums_few : (group groups : ℕ) (sums counts : List ℕ) (bank : ℕ) → group < groups → groups * stride ≤ 256 → AreGroupSums reach c stride group sums → AreCounts reach (group * stride) stride c.banks counts → bank < length sums → slice_index sums bank + carried_to c (slice_index counts) bank ≤ 256
+  pub sums_few : (group groups : ℕ) (sums counts : List ℕ) (bank : ℕ) → group < groups → groups * stride ≤ 256 → AreGroupSums reach c stride group sums → AreKeyCounts reach (group * stride) stride c.banks counts → bank < length sums → slice_index sums bank + carried_to c (slice_index counts) bank ≤ 256
   sums_few group groups sums counts bank below few so are inside =
       let there = subst (λ (n : ℕ). bank < n) so.long inside in
       subst (λ (n : ℕ). n ≤ 256) (sym (ap (λ n. n + carried_to c (slice_index counts) bank) (so.each bank there) ∙ ap (λ n. group_sum reach c stride group bank + n) (carried_of group counts bank there are)))
-      (both (group_sum reach c stride group bank) (carried_to c (keys_from reach (group * stride) stride) bank) (group * stride) (groups * stride) stride
-      (sum_most (λ k. carried_to c (keys_from reach (k * stride) stride) bank) group stride (λ k e. one_group k bank there)) (one_group group bank there) (block_within group groups stride below) few)
+      (both (group_sum reach c stride group bank) (carried_to c (key_count_from reach (group * stride) stride) bank) (group * stride) (groups * stride) stride
+      (sum_most (λ k. carried_to c (key_count_from reach (k * stride) stride) bank) group stride (λ k e. one_group k bank there)) (one_group group bank there) (block_within group groups stride below) few)
     where
       both : (a b g n s : ℕ) → a ≤ g → b ≤ s → g + s ≤ n → n ≤ 256 → a + b ≤ 256
       both a b g n s e f h i = omega (arith, e, f, h, i)
 
-  pub sums_turn : (group : ℕ) (old new counts : List ℕ) → AreGroupSums reach c stride group old → AreCounts reach (group * stride) stride c.banks counts → AddsCarried c (slice_index counts) old new → AreGroupSums reach c stride (group + 1) new
+  pub sums_turn : (group : ℕ) (old new counts : List ℕ) → AreGroupSums reach c stride group old → AreKeyCounts reach (group * stride) stride c.banks counts → AddsCarried c (slice_index counts) old new → AreGroupSums reach c stride (group + 1) new
   sums_turn group old new counts so are adds = subst (λ (n : ℕ). AreGroupSums reach c stride n new) (sym (add-one group)) (record {
     long = adds.long ∙ so.long;
     each = λ bank inside.

@@ -13,7 +13,7 @@ use Rattle.dh_meets.specs.MayMeet.{row_of_accesses, arms_meet, meets, command_me
 use Rattle.dh_events.specs.declared.events.Site.{Site}
 use Rattle.dh_events.specs.declared.noting.Open.{Open}
 use Rattle.dh_events.specs.Incidents.{PortEvent, touches, assigned, arm_begins, arm_ends, begins, next, ends, site_at, term_incidents, form_incidents, terms_incidents, maybe_incidents, target_incidents, is_stepped, closed, released, phase_of, tested, inside_choice, round_inside, when_parted, has_other, arms_part, are_parts, open_after, part_open, open_combine, incidents, command_incidents, other_incidents, combine_incidents, groups_incidents, part_incidents}
-use Rattle.dh_ports.specs.Courses.{count, Ties, PartsTie}
+use Rattle.dh_ports.specs.Courses.{access_count, Ties, PartsTie}
 use Rattle.dh_ports.proofs.CourseTies.{count_append, ties_nothing, ties_all, parts_none, parts_one, ties_parts, ties_two, ties_access, ties_behind, ties_single}
 
 -- sums
@@ -26,26 +26,26 @@ with_none x = omega arith
 from_none : (x : ℕ) → x ≡ 0 + x
 from_none x = omega arith
 
-both_count : (xs ys : List PortEvent) (m n : ℕ) → count xs ≡ m → count ys ≡ n → count (xs ++ ys) ≡ m + n
+both_count : (xs ys : List PortEvent) (m n : ℕ) → access_count xs ≡ m → access_count ys ≡ n → access_count (xs ++ ys) ≡ m + n
 both_count xs ys m n e f = count_append xs ys ∙ sums _ _ _ _ e f
 
-one_more : (xs : List PortEvent) (y : PortEvent) (m : ℕ) → count (y ∷ []) ≡ 1 → count xs ≡ m → count (xs ++ y ∷ []) ≡ suc m
-one_more xs y m e f = count_append xs (y ∷ []) ∙ add (count xs) (count (y ∷ [])) m e f
+one_more : (xs : List PortEvent) (y : PortEvent) (m : ℕ) → access_count (y ∷ []) ≡ 1 → access_count xs ≡ m → access_count (xs ++ y ∷ []) ≡ suc m
+one_more xs y m e f = count_append xs (y ∷ []) ∙ add (access_count xs) (access_count (y ∷ [])) m e f
   where
     add : (a b m : ℕ) → b ≡ 1 → a ≡ m → a + b ≡ suc m
     add a b m e f = omega (arith, e, f)
 
-none_more : (xs : List PortEvent) (y : PortEvent) (m : ℕ) → count (y ∷ []) ≡ 0 → count xs ≡ m → count (xs ++ y ∷ []) ≡ m
-none_more xs y m e f = count_append xs (y ∷ []) ∙ add (count xs) (count (y ∷ [])) m e f
+none_more : (xs : List PortEvent) (y : PortEvent) (m : ℕ) → access_count (y ∷ []) ≡ 0 → access_count xs ≡ m → access_count (xs ++ y ∷ []) ≡ m
+none_more xs y m e f = count_append xs (y ∷ []) ∙ add (access_count xs) (access_count (y ∷ [])) m e f
   where
     add : (a b m : ℕ) → b ≡ 0 → a ≡ m → a + b ≡ m
     add a b m e f = omega (arith, e, f)
 
 mutual
-  pub term_count : (s : Site) (t : Term) → count (term_incidents s t) ≡ term_accesses t
+  pub term_count : (s : Site) (t : Term) → access_count (term_incidents s t) ≡ term_accesses t
   term_count s (term place kind form) = form_count s place kind form
 
-  form_count : (s : Site) (place : Place) (kind : Option Kind) (form : TermForm) → count (form_incidents s place kind form) ≡ form_accesses form
+  form_count : (s : Site) (place : Place) (kind : Option Kind) (form : TermForm) → access_count (form_incidents s place kind form) ≡ form_accesses form
   form_count s place kind (number negative n) = refl
   form_count s place kind (truth_value value) = refl
   form_count s place kind (named r) = refl
@@ -54,15 +54,15 @@ mutual
   form_count s place kind (applied op left right) = both_count (term_incidents s left) (term_incidents s right) _ _ (term_count s left) (term_count s right)
   form_count s place kind (converted inner to) = term_count s inner
 
-  pub terms_count : (s : Site) (ts : Terms) → count (terms_incidents s ts) ≡ terms_accesses ts
+  pub terms_count : (s : Site) (ts : Terms) → access_count (terms_incidents s ts) ≡ terms_accesses ts
   terms_count s no_terms = refl
   terms_count s (term_then t ts) = both_count (term_incidents s t) (terms_incidents s ts) _ _ (term_count s t) (terms_count s ts)
 
-pub maybe_count : (s : Site) (t : Option Term) → count (maybe_incidents s t) ≡ maybe_accesses t
+pub maybe_count : (s : Site) (t : Option Term) → access_count (maybe_incidents s t) ≡ maybe_accesses t
 maybe_count s None = refl
 maybe_count s (Some t) = term_count s t
 
-pub target_count : (s : Site) (t : Term) → count (target_incidents s t) ≡ term_accesses t
+pub target_count : (s : Site) (t : Term) → access_count (target_incidents s t) ≡ term_accesses t
 target_count s (term place kind (number negative n)) = refl
 target_count s (term place kind (truth_value value)) = refl
 target_count s (term place kind (named r)) = refl
@@ -72,19 +72,19 @@ target_count s (term place kind (applied op left right)) = both_count (term_inci
 target_count s (term place kind (converted inner to)) = term_count s inner
 
 -- marks of parts are no accesses
-parted_count : (b : Bool) (y : PortEvent) (xs : List PortEvent) → count (y ∷ xs) ≡ count xs → count (when_parted b y ++ xs) ≡ count xs
+parted_count : (b : Bool) (y : PortEvent) (xs : List PortEvent) → access_count (y ∷ xs) ≡ access_count xs → access_count (when_parted b y ++ xs) ≡ access_count xs
 parted_count true y xs none = none
 parted_count false y xs none = refl
 
-behind_count : (b : Bool) (y : PortEvent) (xs : List PortEvent) → count (y ∷ []) ≡ 0 → count (xs ++ when_parted b y) ≡ count xs
-behind_count true y xs none = none_more xs y (count xs) none refl
-behind_count false y xs none = count_append xs [] ∙ with_none (count xs)
+behind_count : (b : Bool) (y : PortEvent) (xs : List PortEvent) → access_count (y ∷ []) ≡ 0 → access_count (xs ++ when_parted b y) ≡ access_count xs
+behind_count true y xs none = none_more xs y (access_count xs) none refl
+behind_count false y xs none = count_append xs [] ∙ with_none (access_count xs)
 
 mutual
-  pub action_count : (f : ℕ → ℕ) (round : Option ℕ) (g : Open) (a : Action) → count (incidents f round g a) ≡ accesses_of a
+  pub action_count : (f : ℕ → ℕ) (round : Option ℕ) (g : Open) (a : Action) → access_count (incidents f round g a) ≡ accesses_of a
   action_count f round g (action id place form) = command_count f round g id form
 
-  command_count : (f : ℕ → ℕ) (round : Option ℕ) (g : Open) (id : ℕ) (form : ActionForm) → count (command_incidents f round g id form) ≡ own_accesses form + inner_accesses form
+  command_count : (f : ℕ → ℕ) (round : Option ℕ) (g : Open) (id : ℕ) (form : ActionForm) → access_count (command_incidents f round g id form) ≡ own_accesses form + inner_accesses form
   command_count f round g id (lets name declared value) = none_more (maybe_incidents (site_at (phase_of g id) round) value) _ _ refl (maybe_count (site_at (phase_of g id) round) value) ∙ sym (with_none _)
   command_count f round g id (lets_memory name shape shape_places value) = refl
   command_count f round g id (views name parent form) = terms_count (site_at (phase_of g id) round) (terms (offsets_of form)) ∙ sym (with_none _)
@@ -113,21 +113,21 @@ mutual
       (combine_count f (round_inside round id factor.value) (open_combine f (open_after f closed body) combine) combine)
       ∙ from_none _
 
-  other_count : (f : ℕ → ℕ) (round : Option ℕ) (g : Open) (o : MaybeAction) → count (other_incidents f round g o) ≡ other_accesses o
+  other_count : (f : ℕ → ℕ) (round : Option ℕ) (g : Open) (o : MaybeAction) → access_count (other_incidents f round g o) ≡ other_accesses o
   other_count f round g no_action = refl
   other_count f round g (one_action a) = none_more (incidents f round g a) arm_ends _ refl (action_count f round g a)
 
-  combine_count : (f : ℕ → ℕ) (round : Option ℕ) (g : Open) (o : MaybeAction) → count (combine_incidents f round g o) ≡ other_accesses o
+  combine_count : (f : ℕ → ℕ) (round : Option ℕ) (g : Open) (o : MaybeAction) → access_count (combine_incidents f round g o) ≡ other_accesses o
   combine_count f round g no_action = refl
   combine_count f round g (one_action a) = action_count f round g a
 
-  groups_count : (f : ℕ → ℕ) (round : Option ℕ) (stepped parted : Bool) (g : Open) (body : Groups) → count (groups_incidents f round stepped parted g body) ≡ groups_accesses body
+  groups_count : (f : ℕ → ℕ) (round : Option ℕ) (stepped parted : Bool) (g : Open) (body : Groups) → access_count (groups_incidents f round stepped parted g body) ≡ groups_accesses body
   groups_count f round stepped parted g no_groups = refl
   groups_count f round stepped parted g (group_then part rest) =
       both_count (part_incidents f round (released stepped g) part) _ _ _ (part_count f round (released stepped g) part)
       (parted_count parted next _ refl ∙ groups_count f round stepped parted (part_open f (released stepped g) part) rest)
 
-  pub part_count : (f : ℕ → ℕ) (round : Option ℕ) (g : Open) (part : Actions) → count (part_incidents f round g part) ≡ part_accesses part
+  pub part_count : (f : ℕ → ℕ) (round : Option ℕ) (g : Open) (part : Actions) → access_count (part_incidents f round g part) ≡ part_accesses part
   part_count f round g no_actions = refl
   part_count f round g (action_then a rest) = both_count (incidents f round g a) (part_incidents f round (open_after f g a) rest) _ _ (action_count f round g a) (part_count f round (open_after f g a) rest)
 
@@ -173,7 +173,7 @@ target_flat s (term place kind (in_bank r bank bank_place t)) = flat_append (ter
 target_flat s (term place kind (applied op left right)) = flat_append (term_incidents s left) (term_incidents s right) (term_flat s left) (term_flat s right)
 target_flat s (term place kind (converted inner to)) = term_flat s inner
 
-flat_ties : (c : ℕ → ℕ) (n : ℕ) (xs : List PortEvent) (m : ℕ) → IsFlat xs → count xs ≡ m → Ties c n xs (row_of_accesses n m)
+flat_ties : (c : ℕ → ℕ) (n : ℕ) (xs : List PortEvent) (m : ℕ) → IsFlat xs → access_count xs ≡ m → Ties c n xs (row_of_accesses n m)
 flat_ties c n _ zero flat_end e = ties_nothing c n
 flat_ties c n _ (suc m) flat_end e = cc
 flat_ties c n _ zero (flat_touch t w s xs x) e = cc
@@ -194,7 +194,7 @@ arm_ties c n xs t f =
     record { first = r.first; last = r.last; after = r.after; during = r.during }
 
 -- the arms of an `if`: both may meet in an unrolled loop; else they are parts, where there are two
-arms_ties : (c : ℕ → ℕ) (n : ℕ) (round : Option ℕ) (other : MaybeAction) (xs ys : List PortEvent) (t u : Meets) → Ties c n xs t → Ties c (n + count xs) ys u → (has_other other ≡ false → (ys ≡ []) × (u ≡ nothing))
+arms_ties : (c : ℕ → ℕ) (n : ℕ) (round : Option ℕ) (other : MaybeAction) (xs ys : List PortEvent) (t u : Meets) → Ties c n xs t → Ties c (n + access_count xs) ys u → (has_other other ≡ false → (ys ≡ []) × (u ≡ nothing))
     → Ties c n (when_parted (arms_part round other) begins ++ (xs ++ (when_parted (arms_part round other) next ++ (ys ++ when_parted (arms_part round other) ends)))) (arms_meet (is_some round) t u)
 arms_ties c n (Some r) other xs ys t u f g lacks =
     subst (λ (zs : List PortEvent). Ties c n (xs ++ zs) (all t u)) (no_end ys) (ties_all c n xs ys t u f g)

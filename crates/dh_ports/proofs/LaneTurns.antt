@@ -16,9 +16,9 @@ use Rattle.dh_meets.specs.Charges.{loop_factors, index_in, indices_in}
 use Rattle.dh_ports.specs.declared.banks.Start.{Start}
 use Rattle.dh_ports.specs.declared.copies.Level.{Level}
 use Rattle.dh_ports.specs.declared.copies.Lane.{Lane}
-use Rattle.dh_ports.specs.Banks.{path_of_number, IsLevel, IsStart}
+use Rattle.dh_ports.specs.Banks.{path_of_number, IsLevel, IsIndexStart}
 use Rattle.dh_shape.specs.Classified.{loops_in}
-use Rattle.dh_ports.specs.Copies.{copy_in, bank_of_lanes, all_lane_banks, HaveBanks, AreLevels, AreLanes}
+use Rattle.dh_ports.specs.Copies.{copy_of_level, bank_of_lanes, all_lane_banks, HaveBanks, AreLevels, AreIndexLanes}
 use Rattle.dh_ports.proofs.BankTurns.{has_banks, banks_more, no_bank}
 use Rattle.dh_ports.proofs.LevelTurns.{copy_told}
 use Rattle.dh_ports.proofs.PathNumbers.{path_long}
@@ -46,7 +46,7 @@ pub record LanesSoFar (tree : Tree) (loops : List Counter) (dims : List Dim) (es
       → bank_of_lanes levels lanes number ≡ bank_of (drop i dims) (indices_at tree loops number (drop i es))
 
 abbrev value_of : List Level → (number : ℕ) → Lane → ℕ
-value_of levels number l = (unsigned_abs (pos (l.low + copy_in levels l.level number) +ℤ l.offset) % l.banks) * l.times
+value_of levels number l = (unsigned_abs (pos (l.low + copy_of_level levels l.level number) +ℤ l.offset) % l.banks) * l.times
 
 told_append : (levels : List Level) (ls : List Lane) (l : Lane) (n : ℕ) → bank_of_lanes levels (ls ++ l ∷ []) n ≡ value_of levels n l + bank_of_lanes levels ls n
 told_append levels [] l n = refl
@@ -100,7 +100,7 @@ module _ (tree : Tree) (loops : List Counter) (ds : List Dim) (es : List Expr) (
       least : (n : ℕ) → 0 ≤ n
       least n = omega arith
 
-  pub lanes_done : (lanes : List Lane) (times : ℕ) → LanesSoFar tree loops ds es 0 lanes times → AreLanes tree loops ds es lanes
+  pub lanes_done : (lanes : List Lane) (times : ℕ) → LanesSoFar tree loops ds es 0 lanes times → AreIndexLanes tree loops ds es lanes
   lanes_done lanes times so = record {
     few = record { few = within (all_lane_banks lanes) (banks_of ds) so.few few; banks = so.banks };
     each = so.each;
@@ -140,7 +140,7 @@ module _ (tree : Tree) (loops : List Counter) (ds : List Dim) (es : List Expr) (
         ap (λ l. bank_of l (indices_at tree loops number (drop (i - 1) es))) here
         ∙ ap (λ l. bank_of (get_or ds (i - 1) d ∷ drop i ds) (indices_at tree loops number l)) (at_place es (i - 1) e inside ∙ (ap (λ x. x ∷ drop (i - 1 + 1) es) (sym is) ∙ ap (λ n. e ∷ drop n es) (back i some)))
 
-    pub lane_more : (e : Expr) (start : Start) (level : ℕ) → i - 1 < length es → e ≡ get_or es (i - 1) e → IsStart tree e start → IsLevel loops start.iterator level → 1 < (get_or ds (i - 1) d).banks
+    pub lane_more : (e : Expr) (start : Start) (level : ℕ) → i - 1 < length es → e ≡ get_or es (i - 1) e → IsIndexStart tree e start → IsLevel loops start.iterator level → 1 < (get_or ds (i - 1) d).banks
         → lanes1 ≡ lanes ++ record { banks = (get_or ds (i - 1) d).banks; times = times; low = start.low; offset = start.offset; level = level } ∷ [] → LanesSoFar tree loops ds es (i - 1) lanes1 times1
     lane_more e start level inside is s l large pushed = record {
       counted = counted;

@@ -26,17 +26,17 @@ use Rattle.dh_ports.specs.declared.levels.Step.{Step}
 use Rattle.dh_ports.specs.declared.levels.Step.TheVariants as step
 use Rattle.dh_ports.specs.declared.moves.Move.{Move}
 use Rattle.dh_ports.specs.declared.moves.Move.TheVariants as move
-use Rattle.dh_ports.specs.Claims.{access_of, base_of, claims_of, moves_from}
-use Rattle.dh_ports.specs.Courses.{count, before_at}
+use Rattle.dh_ports.specs.Claims.{access_of, first_bank_of, claims_of, moves_from}
+use Rattle.dh_ports.specs.Courses.{access_count, before_at}
 use Rattle.dh_ports.specs.Expanded.{taken_by, all_taken}
 use Rattle.dh_events.specs.Incidents.{PortEvent, touches, assigned, arm_begins, arm_ends, begins, next, ends}
 use Rattle.dh_ports.specs.Levels.{Level, start}
 use Rattle.dh_events.specs.Noted.{event_seen, all_seen}
 use Rattle.dh_ports.specs.Orders.{slot_in, step_in, order_of, order_step}
-use Rattle.dh_ports.specs.Scanned.{bank_key, take_of, phase_at, IsWritten, IsNotedFor, IsReadAt, HasRead, FindsLate}
+use Rattle.dh_ports.specs.Scanned.{bank_key, take_of, event_phase, IsWritten, IsNotedFor, IsReadAt, HasRead, FindsLate}
 use Rattle.dh_ports.specs.Told.{IsToldBefore}
-use Rattle.dh_ports.specs.Wholes.{happenings_of, banks_in, Touched, touched, of_access, sites_in, TellsPhases, TellsLoops, loops_known, AreEventsOf, TellsLate}
-use Rattle.dh_ports.specs.WritesFound.{Meeting, can_reach, write_of, write_charge, FindsWrite}
+use Rattle.dh_ports.specs.Wholes.{happenings_of, entry_bank_count, Touched, touched, of_access, sites_in, TellsPhases, TellsLoops, loops_known, AreEventsOf, TellsLate}
+use Rattle.dh_ports.specs.WritesFound.{Meeting, access_can_reach, write_of, write_charge, FindsWrite}
 use Rattle.dh_ports.proofs.ClaimFacts.{found, one_entity, bases_apart}
 use Rattle.dh_ports.proofs.ClaimedBanks.{Claims, IsClaimOf, all_claims, Claimed, claimed, claims_back, Reaching, reaching, reaching_claims, claimed_reaches}
 use Rattle.dh_ports.proofs.AccessClaims.{event_of, follow_all, nth_claims, claim_lists, none_claims}
@@ -59,11 +59,11 @@ none_one e = omega (arith, e)
 one_bank : (p : Program) (slot : ℕ) (a b : SourceAccess) (c : Claimed p slot a) (d : Claimed p slot b) → (c.memory ≡ d.memory) × (c.bank ≡ d.bank)
 one_bank p slot a b c d = by_place (cases_lt c.number d.number) (cases_lt d.number c.number)
   where
-    banks_c : c.bank < banks_in (slice_get (table_of p) c.number)
-    banks_c = subst (λ (o : Option MemEntry). c.bank < banks_in o) (sym c.stands) c.within
+    banks_c : c.bank < entry_bank_count (slice_get (table_of p) c.number)
+    banks_c = subst (λ (o : Option MemEntry). c.bank < entry_bank_count o) (sym c.stands) c.within
 
-    banks_d : d.bank < banks_in (slice_get (table_of p) d.number)
-    banks_d = subst (λ (o : Option MemEntry). d.bank < banks_in o) (sym d.stands) d.within
+    banks_d : d.bank < entry_bank_count (slice_get (table_of p) d.number)
+    banks_d = subst (λ (o : Option MemEntry). d.bank < entry_bank_count o) (sym d.stands) d.within
 
     apart : (s m b n i j : ℕ) → s ≡ m + i → s ≡ n + j → m + b ≤ n → i < b → ⊥
     apart s m b n i j e f g h = omega (arith, e, f, g, h)
@@ -75,15 +75,15 @@ one_bank p slot a b c d = by_place (cases_lt c.number d.number) (cases_lt d.numb
     cancel s m i j e f = omega (arith, e, f)
 
     by_place : (c.number < d.number) ⊎ (d.number ≤ c.number) → (d.number < c.number) ⊎ (c.number ≤ d.number) → (c.memory ≡ d.memory) × (c.bank ≡ d.bank)
-    by_place (inl f) g = absurd (apart slot (base_of (table_of p) c.number) _ (base_of (table_of p) d.number) c.bank d.bank c.is d.is (bases_apart (table_of p) c.number d.number f) banks_c)
-    by_place (inr f) (inl g) = absurd (apart slot (base_of (table_of p) d.number) _ (base_of (table_of p) c.number) d.bank c.bank d.is c.is (bases_apart (table_of p) d.number c.number g) banks_d)
+    by_place (inl f) g = absurd (apart slot (first_bank_of (table_of p) c.number) _ (first_bank_of (table_of p) d.number) c.bank d.bank c.is d.is (bases_apart (table_of p) c.number d.number f) banks_c)
+    by_place (inr f) (inl g) = absurd (apart slot (first_bank_of (table_of p) d.number) _ (first_bank_of (table_of p) c.number) d.bank c.bank d.is c.is (bases_apart (table_of p) d.number c.number g) banks_d)
     by_place (inr f) (inr g) =
         let same : c.number ≡ d.number = equal c.number d.number g f in
         let mine = found (memories_of p) (Some c.memory) c.number c.known in
         let its = found (memories_of p) (Some d.memory) d.number d.known in
         let one : mine.memory ≡ its.memory = some_same mine.memory its.memory (sym mine.named ∙ (ap (slice_get (memories_of p)) same ∙ its.named)) in
         let entities : Some c.memory ≡ Some d.memory = one_entity mine.memory.name.entity (Some c.memory) (Some d.memory) mine.same (ap (λ (x : Memory). same_entity x.name.entity (Some d.memory)) one ∙ its.same) in
-        (some_same c.memory d.memory entities, cancel slot (base_of (table_of p) d.number) c.bank d.bank (c.is ∙ ap (λ n. base_of (table_of p) n + c.bank) same) d.is)
+        (some_same c.memory d.memory entities, cancel slot (first_bank_of (table_of p) d.number) c.bank d.bank (c.is ∙ ap (λ n. first_bank_of (table_of p) n + c.bank) same) d.is)
 
 -- Claims among all moves.
 
@@ -245,7 +245,7 @@ ordered known (Some event.Next) t writes site bank e = cc
 ordered known (Some event.Ends) t writes site bank e = cc
 
 -- the phase of an access, and a read in its own
-phase_is : (o : Option Event) (t : Term) (writes : Bool) (site : Site) → option_map event_seen o ≡ Some (touches t writes site) → phase_at o ≡ site.phase
+phase_is : (o : Option Event) (t : Term) (writes : Bool) (site : Site) → option_map event_seen o ≡ Some (touches t writes site) → event_phase o ≡ site.phase
 phase_is None t writes site e = cc
 phase_is (Some (event.Touch w phase round access element newest)) t writes site e = ap (λ (s : Site). s.phase) (touch_site _ _ _ _ _ _ (some_same _ _ e))
 phase_is (Some (event.Assigned entity)) t writes site e = cc
@@ -320,12 +320,12 @@ pub record Charged (p : Program) (memory bank read number : ℕ) : Type 0 where
   pub is : slice_get (accesses_in (trace p)) number ≡ Some access
   pub writes : access.writes ≡ true
   pub phase : in_one_phase p number read ≡ true
-  pub reached : can_reach p access memory bank ≡ true
+  pub reached : access_can_reach p access memory bank ≡ true
 
 charged_is : (p : Program) (memory bank read number : ℕ) → 1 ≤ write_charge p memory bank read number → Charged p memory bank read number
 charged_is p memory bank read number h = by_access (slice_get (accesses_in (trace p)) number) refl h
   where
-    by_test : (a : SourceAccess) → slice_get (accesses_in (trace p)) number ≡ Some a → (x y z : Bool) → a.writes ≡ x → in_one_phase p number read ≡ y → can_reach p a memory bank ≡ z → 1 ≤ (if (x && y) && z then 1 else 0) → Charged p memory bank read number
+    by_test : (a : SourceAccess) → slice_get (accesses_in (trace p)) number ≡ Some a → (x y z : Bool) → a.writes ≡ x → in_one_phase p number read ≡ y → access_can_reach p a memory bank ≡ z → 1 ≤ (if (x && y) && z then 1 else 0) → Charged p memory bank read number
     by_test a e true true true f g i h = record { access = a; is = e; writes = f; phase = g; reached = i }
     by_test a e true true false f g i h = absurd (none_one h)
     by_test a e true false z f g i h = absurd (none_one h)
@@ -333,14 +333,14 @@ charged_is p memory bank read number h = by_access (slice_get (accesses_in (trac
 
     by_access : (o : Option SourceAccess) → slice_get (accesses_in (trace p)) number ≡ o → 1 ≤ write_of p memory bank read number o → Charged p memory bank read number
     by_access None e h = absurd (none_one h)
-    by_access (Some a) e h = by_test a e a.writes (in_one_phase p number read) (can_reach p a memory bank) refl refl refl h
+    by_access (Some a) e h = by_test a e a.writes (in_one_phase p number read) (access_can_reach p a memory bank) refl refl refl h
 
 is_charged : (p : Program) (memory bank read number : ℕ) → Charged p memory bank read number → 1 ≤ write_charge p memory bank read number
 is_charged p memory bank read number c =
     subst (λ (n : ℕ). 1 ≤ n)
     (sym (ap (λ o. write_of p memory bank read number o) c.is
-    ∙ (ap (λ b. if (b && in_one_phase p number read) && can_reach p c.access memory bank then 1 else 0) c.writes
-    ∙ (ap (λ b. if b && can_reach p c.access memory bank then 1 else 0) c.phase ∙ ap (λ b. if b then 1 else 0) c.reached)))) one
+    ∙ (ap (λ b. if (b && in_one_phase p number read) && access_can_reach p c.access memory bank then 1 else 0) c.writes
+    ∙ (ap (λ b. if b && access_can_reach p c.access memory bank then 1 else 0) c.phase ∙ ap (λ b. if b then 1 else 0) c.reached)))) one
   where
     one : 1 ≤ 1
     one = omega arith
@@ -400,15 +400,15 @@ module _ (p : Program) (events : List Event) (h0 : IsToldBefore p) (loops : Tell
   phase_told j k b a f e = phases j k (site j b f) (site k a e) (sited j b f) (sited k a e)
 
   -- a bank of a memory by its place among all
-  bank_place : (memory number bank slot : ℕ) (a b : SourceAccess) (c : Claimed p slot a) (r : Reaching p b c.memory c.bank) → base_of (table_of p) r.number + c.bank ≡ slot
-  bank_place memory number bank slot a b c r = ap (λ n. base_of (table_of p) n + c.bank) (some_same r.number c.number (sym r.known ∙ c.known)) ∙ sym c.is
+  bank_place : (memory number bank slot : ℕ) (a b : SourceAccess) (c : Claimed p slot a) (r : Reaching p b c.memory c.bank) → first_bank_of (table_of p) r.number + c.bank ≡ slot
+  bank_place memory number bank slot a b c r = ap (λ n. first_bank_of (table_of p) n + c.bank) (some_same r.number c.number (sym r.known ∙ c.known)) ∙ sym c.is
 
   -- a read, with the slot of the key of a bank that it claims
   module _ (k : ℕ) (a : SourceAccess) (e : slice_get (accesses_in (trace p)) k ≡ Some a) (reads : a.writes ≡ false) (slot place : ℕ) (c : Claimed p place a)
       (keyed : slice_get finds.known slot ≡ Some (bank_key (site k a e).phase place)) where
     -- what takes of the slot is a write of the bank in the phase
     taken_charged : (j : ℕ) → 1 ≤ takes slot j → 1 ≤ write_charge p c.memory c.bank k j
-    taken_charged j h = elim (cases_lt j (count (all_seen events))) [
+    taken_charged j h = elim (cases_lt j (access_count (all_seen events))) [
       | inl less ↦
           let b = access_there p (all_seen events) w j less in
           let t = takes_at finds.known events (event_of (all_seen events) j) slot (nth_claims (claim_lists p (loops_known p) 0 (all_seen events)) j) (own j b.0 b.1) h in
@@ -421,7 +421,7 @@ module _ (p : Program) (events : List Event) (h0 : IsToldBefore p) (loops : Tell
             is = b.1;
             writes = take_true b.0.writes t.takes s.1 t.some;
             phase = phase_told j k b.0 a b.1 e ∙ eq-eqb _ _ (key_phase _ _ _ _ keys);
-            reached = ap (λ m. can_reach p b.0 m c.bank) (sym one.0) ∙ (ap (λ n. can_reach p b.0 d.memory n) (sym one.1) ∙ claimed_reaches p place b.0 d (bounds_of p h0 j b.0 b.1));
+            reached = ap (λ m. access_can_reach p b.0 m c.bank) (sym one.0) ∙ (ap (λ n. access_can_reach p b.0 d.memory n) (sym one.1) ∙ claimed_reaches p place b.0 d (bounds_of p h0 j b.0 b.1));
           })
       | inr more ↦ absurd (none_one (subst (λ (ms : List Move). 1 ≤ all_taken slot (map (order_step finds.known events) ms)) (none_claims p (loops_known p) 0 (all_seen events) j more) h))
     ]
@@ -535,18 +535,18 @@ module _ (p : Program) (events : List Event) (h0 : IsToldBefore p) (loops : Tell
       let c = reaching_claims p f.later f.memory f.bank r in
       let q = reaching p x.access f.memory f.bank (bounds_of p h0 m.number x.access x.is) x.reached in
       let numbers : q.number ≡ r.number = some_same q.number r.number (sym q.known ∙ r.known) in
-      let d : Claimed p (base_of (table_of p) r.number + f.bank) x.access = subst (λ (n : ℕ). Claimed p (base_of (table_of p) n + f.bank) x.access) numbers (reaching_claims p x.access f.memory f.bank q) in
+      let d : Claimed p (first_bank_of (table_of p) r.number + f.bank) x.access = subst (λ (n : ℕ). Claimed p (first_bank_of (table_of p) n + f.bank) x.access) numbers (reaching_claims p x.access f.memory f.bank q) in
       let phase : (site m.number x.access x.is).phase ≡ (site f.read f.later f.reads).phase = eqb-true _ _ (sym (phase_told m.number f.read x.access f.later x.is f.reads) ∙ x.phase) in
-      let has : HasRead events (phase_at (slice_get events (event_of (all_seen events) m.number))) = (
+      let has : HasRead events (event_phase (slice_get events (event_of (all_seen events) m.number))) = (
         event_of (all_seen events) f.read,
         subst (λ (n : ℕ). IsReadAt (slice_get events (event_of (all_seen events) f.read)) n)
             (sym phase ∙ sym (phase_is (slice_get events (event_of (all_seen events) m.number)) (at m.number x.access x.is).touch.access x.access.writes (site m.number x.access x.is) (seen_is m.number x.access x.is)))
             (read_at (slice_get events (event_of (all_seen events) f.read)) (at f.read f.later f.reads).touch.access (site f.read f.later f.reads) (seen_is f.read f.later f.reads ∙ ap (λ b. Some (touches (at f.read f.later f.reads).touch.access b (site f.read f.later f.reads))) f.read_is)),
       ) in
-      let written = claim_there (IsNotedFor finds.known events) (event_of (all_seen events) m.number) (base_of (table_of p) r.number + f.bank) (nth_claims (claim_lists p (loops_known p) 0 (all_seen events)) m.number) (own m.number x.access x.is)
-      (claims_all (IsNotedFor finds.known events) p (loops_known p) 0 (all_seen events) finds.written m.number) (at_claimed m.number x.access x.is (base_of (table_of p) r.number + f.bank) d) in
-      let key = written_key finds.known (slice_get events (event_of (all_seen events) m.number)) (at m.number x.access x.is).touch.access (site m.number x.access x.is) (base_of (table_of p) r.number + f.bank) (seen_is m.number x.access x.is ∙ ap (λ b. Some (touches (at m.number x.access x.is).touch.access b (site m.number x.access x.is))) x.writes) (written.1 has) in
-      let keyed : slice_get finds.known key.0 ≡ Some (bank_key (site f.read f.later f.reads).phase (base_of (table_of p) r.number + f.bank)) = key.1 ∙ ap (λ g. Some (bank_key g (base_of (table_of p) r.number + f.bank))) phase in
+      let written = claim_there (IsNotedFor finds.known events) (event_of (all_seen events) m.number) (first_bank_of (table_of p) r.number + f.bank) (nth_claims (claim_lists p (loops_known p) 0 (all_seen events)) m.number) (own m.number x.access x.is)
+      (claims_all (IsNotedFor finds.known events) p (loops_known p) 0 (all_seen events) finds.written m.number) (at_claimed m.number x.access x.is (first_bank_of (table_of p) r.number + f.bank) d) in
+      let key = written_key finds.known (slice_get events (event_of (all_seen events) m.number)) (at m.number x.access x.is).touch.access (site m.number x.access x.is) (first_bank_of (table_of p) r.number + f.bank) (seen_is m.number x.access x.is ∙ ap (λ b. Some (touches (at m.number x.access x.is).touch.access b (site m.number x.access x.is))) x.writes) (written.1 has) in
+      let keyed : slice_get finds.known key.0 ≡ Some (bank_key (site f.read f.later f.reads).phase (first_bank_of (table_of p) r.number + f.bank)) = key.1 ∙ ap (λ g. Some (bank_key g (first_bank_of (table_of p) r.number + f.bank))) phase in
       record {
         number = f.read;
         behind = f.read;
@@ -555,18 +555,18 @@ module _ (p : Program) (events : List Event) (h0 : IsToldBefore p) (loops : Tell
         stands = ap (option_map (λ (t : Touched). t.place)) (ap (λ l. slice_get l f.read) w.touched_all ∙ (slice_get-map of_access (accesses_in (trace p)) f.read ∙ ap (option_map of_access) f.reads));
         breaks = ap (λ q. breach rule.ReadAfterWrite q) (sym f.stands);
         slot = key.0;
-        looks = at_looks finds.known events (event_of (all_seen events) f.read) key.0 (base_of (table_of p) r.number + f.bank) (nth_claims (claim_lists p (loops_known p) 0 (all_seen events)) f.read) (own f.read f.later f.reads)
-            (at_claimed f.read f.later f.reads (base_of (table_of p) r.number + f.bank) c)
-            (order_is f.read f.later f.reads (base_of (table_of p) r.number + f.bank)
-            ∙ (ap (λ o. step_in o (take_of f.later.writes)) (slot_is finds.known finds.distinct (bank_key (site f.read f.later f.reads).phase (base_of (table_of p) r.number + f.bank)) key.0 keyed) ∙ ap (λ b. step.Access key.0 (take_of b)) f.read_is));
-        gone = meets_gone f.read f.later f.reads f.read_is key.0 (base_of (table_of p) r.number + f.bank) c keyed m;
+        looks = at_looks finds.known events (event_of (all_seen events) f.read) key.0 (first_bank_of (table_of p) r.number + f.bank) (nth_claims (claim_lists p (loops_known p) 0 (all_seen events)) f.read) (own f.read f.later f.reads)
+            (at_claimed f.read f.later f.reads (first_bank_of (table_of p) r.number + f.bank) c)
+            (order_is f.read f.later f.reads (first_bank_of (table_of p) r.number + f.bank)
+            ∙ (ap (λ o. step_in o (take_of f.later.writes)) (slot_is finds.known finds.distinct (bank_key (site f.read f.later f.reads).phase (first_bank_of (table_of p) r.number + f.bank)) key.0 keyed) ∙ ap (λ b. step.Access key.0 (take_of b)) f.read_is));
+        gone = meets_gone f.read f.later f.reads f.read_is key.0 (first_bank_of (table_of p) r.number + f.bank) c keyed m;
       }
     where
       from_none : (n : ℕ) → n ≡ 0 + n
       from_none n = omega arith
 
       free : (later : SourceAccess) → slice_get (accesses_in (trace p)) f.read ≡ Some later → later.writes ≡ false → write_charge p f.memory f.bank f.read f.read ≡ 0
-      free later e g = ap (λ o. write_of p f.memory f.bank f.read f.read o) e ∙ ap (λ b. if (b && in_one_phase p f.read f.read) && can_reach p later f.memory f.bank then 1 else 0) g
+      free later e g = ap (λ o. write_of p f.memory f.bank f.read f.read o) e ∙ ap (λ b. if (b && in_one_phase p f.read f.read) && access_can_reach p later f.memory f.bank then 1 else 0) g
 
   pub told : TellsLate p late
   told place = (

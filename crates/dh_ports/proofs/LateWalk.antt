@@ -25,10 +25,10 @@ use Rattle.dh_events.specs.Classes.{KeysAreDistinct, is_same}
 use Rattle.dh_ports.specs.Courses.{less, before_at}
 use Rattle.dh_ports.specs.Expanded.{level_behind, all_taken, AreTaking}
 use Rattle.dh_events.specs.Incidents.{PortEvent, touches, assigned, arm_begins, arm_ends, begins, next, ends}
-use Rattle.dh_ports.specs.Levels.{Level, level, taken, begun, kept_back, settled, lefts_of}
+use Rattle.dh_ports.specs.Levels.{Level, slot_level, taken, begun, kept_back, settled_slot_level, left_before_each}
 use Rattle.dh_events.specs.Noted.{event_seen, all_seen}
 use Rattle.dh_ports.specs.Orders.{order_of, order_step, slot_in, step_in}
-use Rattle.dh_ports.specs.Scanned.{bank_key, take_of, StepsAt, ClaimOrdersAt, IsOrdering, AreOrdering, late_at, place_in, place_found, all_late}
+use Rattle.dh_ports.specs.Scanned.{bank_key, take_of, StepsAt, ClaimOrdersAt, IsOrdering, AreOrdering, late_at, move_place, maybe_event_place, all_late}
 use Rattle.dh_ports.specs.Wholes.{Touched, touched}
 use Rattle.dh_ports.proofs.ExpandedTies.{steps_taken}
 use Rattle.dh_events.proofs.KeyFacts.{same_key, own_key}
@@ -196,7 +196,7 @@ looks_nothing slot (step.Back ∷ ss) h = absurd h.0
 
 module _ (whole : List PortEvent) where
   abbrev pub scan : (ℕ → Level) → List Move → List Step → List Breach
-  scan levels ms ss = all_late whole ms ss (lefts_of levels ss)
+  scan levels ms ss = all_late whole ms ss (left_before_each levels ss)
 
   abbrev behind : (ℕ → Level) → List Step → ℕ → Level
   behind levels ss slot = level_behind slot (levels slot) ss
@@ -216,7 +216,7 @@ module _ (whole : List PortEvent) where
       none : (n : ℕ) → 0 ≡ suc n → ⊥
       none n e = omega (arith, e)
   takes_scan (m ∷ ms) rest (step.Access slot takes ∷ ss) rs levels e h =
-      ap (λ t. if (t == 0) && ((levels slot).now == 0) then late_at (place_in whole m) ++ scan (λ other. taken slot takes other (levels other)) (ms ++ rest) (ss ++ rs) else scan (λ other. taken slot takes other (levels other)) (ms ++ rest) (ss ++ rs)) h.0
+      ap (λ t. if (t == 0) && ((levels slot).now == 0) then late_at (move_place whole m) ++ scan (λ other. taken slot takes other (levels other)) (ms ++ rest) (ss ++ rs) else scan (λ other. taken slot takes other (levels other)) (ms ++ rest) (ss ++ rs)) h.0
       ∙ takes_scan ms rest ss rs (λ other. taken slot takes other (levels other)) (one_less _ _ e) h.1
   takes_scan (m ∷ ms) rest (step.Other ∷ ss) rs levels e h = takes_scan ms rest ss rs levels (one_less _ _ e) h.1
   takes_scan (m ∷ ms) rest (step.Begin ∷ ss) rs levels e h = absurd h.0
@@ -234,8 +234,8 @@ module _ (whole : List PortEvent) where
       less_none : (n t : ℕ) → t ≡ 0 → n - t ≡ n
       less_none n t e = omega (arith, e)
 
-      same : (b : Bool) (l : Level) → (if b then level (l.now - takes) l.base l.low l.outer else l) ≡ l
-      same true l = ap (λ n. level n l.base l.low l.outer) (less_none l.now takes e)
+      same : (b : Bool) (l : Level) → (if b then slot_level (l.now - takes) l.base l.low l.outer else l) ≡ l
+      same true l = ap (λ n. slot_level n l.base l.low l.outer) (less_none l.now takes e)
       same false l = refl
 
   only_one : (x y : Breach) → Contains (x ∷ []) y → y ≡ x
@@ -245,18 +245,18 @@ module _ (whole : List PortEvent) where
       none : (k : ℕ) → suc k < 1 → ⊥
       none k e = omega (arith, e)
 
-  module _ (event : ℕ) (place : Place) (stands : place_found (slice_get whole event) ≡ Some place) where
-    place_of_claim : (m : Move) → IsClaimOf event m → late_at (place_in whole m) ≡ breach rule.ReadAfterWrite place ∷ []
-    place_of_claim (move.Claim e slot keys) h = ap (λ n. late_at (place_found (slice_get whole n))) h ∙ ap late_at stands
+  module _ (event : ℕ) (place : Place) (stands : maybe_event_place (slice_get whole event) ≡ Some place) where
+    place_of_claim : (m : Move) → IsClaimOf event m → late_at (move_place whole m) ≡ breach rule.ReadAfterWrite place ∷ []
+    place_of_claim (move.Claim e slot keys) h = ap (λ n. late_at (maybe_event_place (slice_get whole n))) h ∙ ap late_at stands
     place_of_claim move.Begin h = absurd h
     place_of_claim move.Next h = absurd h
     place_of_claim move.End h = absurd h
 
     first_so : (m : Move) (ms rest : List Move) (slot takes : ℕ) (ss rs : List Step) (levels : ℕ → Level) → takes ≡ 0
-        → scan levels ((m ∷ ms) ++ rest) ((step.Access slot takes ∷ ss) ++ rs) ≡ (if (levels slot).now == 0 then late_at (place_in whole m) ++ scan levels (ms ++ rest) (ss ++ rs) else scan levels (ms ++ rest) (ss ++ rs))
+        → scan levels ((m ∷ ms) ++ rest) ((step.Access slot takes ∷ ss) ++ rs) ≡ (if (levels slot).now == 0 then late_at (move_place whole m) ++ scan levels (ms ++ rest) (ss ++ rs) else scan levels (ms ++ rest) (ss ++ rs))
     first_so m ms rest slot takes ss rs levels q =
-        ap (λ (ls : ℕ → Level). if (takes == 0) && ((levels slot).now == 0) then late_at (place_in whole m) ++ scan ls (ms ++ rest) (ss ++ rs) else scan ls (ms ++ rest) (ss ++ rs)) (look_levels slot takes levels q)
-        ∙ ap (λ t. if (t == 0) && ((levels slot).now == 0) then late_at (place_in whole m) ++ scan levels (ms ++ rest) (ss ++ rs) else scan levels (ms ++ rest) (ss ++ rs)) q
+        ap (λ (ls : ℕ → Level). if (takes == 0) && ((levels slot).now == 0) then late_at (move_place whole m) ++ scan ls (ms ++ rest) (ss ++ rs) else scan ls (ms ++ rest) (ss ++ rs)) (look_levels slot takes levels q)
+        ∙ ap (λ t. if (t == 0) && ((levels slot).now == 0) then late_at (move_place whole m) ++ scan levels (ms ++ rest) (ss ++ rs) else scan levels (ms ++ rest) (ss ++ rs)) q
 
     by_look : (m : Move) (ms rest : List Move) (slot takes : ℕ) (ss rs : List Step) (levels : ℕ → Level) (b : Breach) → IsClaimOf event m → takes ≡ 0 → (((levels slot).now == 0) ≡ true) ⊎ (((levels slot).now == 0) ≡ false)
         → (Contains (scan levels (ms ++ rest) (ss ++ rs)) b → Found place levels ss b ⊎ Contains (scan levels rest rs) b) × (Found place levels ss b ⊎ Contains (scan levels rest rs) b → Contains (scan levels (ms ++ rest) (ss ++ rs)) b)
@@ -264,7 +264,7 @@ module _ (whole : List PortEvent) where
         × (Found place levels (step.Access slot takes ∷ ss) b ⊎ Contains (scan levels rest rs) b → Contains (scan levels ((m ∷ ms) ++ rest) ((step.Access slot takes ∷ ss) ++ rs)) b)
     by_look m ms rest slot takes ss rs levels b c q (inl f) r =
         let same : scan levels ((m ∷ ms) ++ rest) ((step.Access slot takes ∷ ss) ++ rs) ≡ breach rule.ReadAfterWrite place ∷ scan levels (ms ++ rest) (ss ++ rs) =
-        first_so m ms rest slot takes ss rs levels q ∙ (ap (λ b. if b then late_at (place_in whole m) ++ scan levels (ms ++ rest) (ss ++ rs) else scan levels (ms ++ rest) (ss ++ rs)) f ∙ ap (λ l. l ++ scan levels (ms ++ rest) (ss ++ rs)) (place_of_claim m c)) in (
+        first_so m ms rest slot takes ss rs levels q ∙ (ap (λ b. if b then late_at (move_place whole m) ++ scan levels (ms ++ rest) (ss ++ rs) else scan levels (ms ++ rest) (ss ++ rs)) f ∙ ap (λ l. l ++ scan levels (ms ++ rest) (ss ++ rs)) (place_of_claim m c)) in (
           λ g. elim (Contains-append_cases (breach rule.ReadAfterWrite place ∷ []) (scan levels (ms ++ rest) (ss ++ rs)) b (subst (λ (l : List Breach). Contains l b) same g)) [
             | inl h ↦ inl (only_one _ b h, (slot, (inl (refl, q), eqb-true (levels slot).now 0 f)))
             | inr h ↦ elim (r.0 h) [ inl i ↦ inl (i.0, (i.1.0, (inr i.1.1.0, i.1.1.1))) | inr i ↦ inr i ]
@@ -279,7 +279,7 @@ module _ (whole : List PortEvent) where
         one_more = omega arith
     by_look m ms rest slot takes ss rs levels b c q (inr f) r =
         let same : scan levels ((m ∷ ms) ++ rest) ((step.Access slot takes ∷ ss) ++ rs) ≡ scan levels (ms ++ rest) (ss ++ rs) =
-        first_so m ms rest slot takes ss rs levels q ∙ ap (λ b. if b then late_at (place_in whole m) ++ scan levels (ms ++ rest) (ss ++ rs) else scan levels (ms ++ rest) (ss ++ rs)) f in (
+        first_so m ms rest slot takes ss rs levels q ∙ ap (λ b. if b then late_at (move_place whole m) ++ scan levels (ms ++ rest) (ss ++ rs) else scan levels (ms ++ rest) (ss ++ rs)) f in (
           λ g. elim (r.0 (subst (λ (l : List Breach). Contains l b) same g)) [ inl i ↦ inl (i.0, (i.1.0, (inr i.1.1.0, i.1.1.1))) | inr i ↦ inr i ],
           λ g. subst (λ (l : List Breach). Contains l b) (sym same) (r.1 (elim g [
             | inl h ↦ inl (h.0, (h.1.0, (other_slot h.1.0 h.1.1.1 h.1.1.0, h.1.1.1)))
@@ -526,7 +526,7 @@ module _ (known : List Key) (events : List Event) (p : Program) (loops : Option 
         )
     touch_walk false lined stands rest b =
         let looks = all_look event t site stands (own_claims event t false site) (all_claims p event (access_of (loops site.round) false t)) in
-        let r = looks_scan seen event (term_place t) (ap place_found stands) (own_claims event t false site) (moves_from p loops (event + 1) xs) (map step_of (own_claims event t false site)) (map step_of (moves_from p loops (event + 1) xs)) levels b
+        let r = looks_scan seen event (term_place t) (ap maybe_event_place stands) (own_claims event t false site) (moves_from p loops (event + 1) xs) (map step_of (own_claims event t false site)) (map step_of (moves_from p loops (event + 1) xs)) levels b
         (long (own_claims event t false site)) (all_claims p event (access_of (loops site.round) false t)) looks in
         let still : ◌≡◌ {A = ℕ → Level} levels (next_levels levels n) = fun_ext (λ slot. same_level (levels slot) (takes_of slot n) (ap (all_taken slot) (own_steps false lined stands) ∙ looks_nothing slot (map step_of (own_claims event t false site)) looks)) in
         let whole = ap (λ ss. scan seen levels (own_claims event t false site ++ moves_from p loops (event + 1) xs) ss) (map_append (own_claims event t false site) (moves_from p loops (event + 1) xs)) in
@@ -545,7 +545,7 @@ module _ (known : List Key) (events : List Event) (p : Program) (loops : Option 
         less_none n t e = omega (arith, e)
 
         same_level : (l : Level) (c : ℕ) → c ≡ 0 → l ≡ less c l
-        same_level l c e = ap (λ n. level n l.base l.low l.outer) (less_none l.now c e)
+        same_level l c e = ap (λ n. slot_level n l.base l.low l.outer) (less_none l.now c e)
 
   pub walk : (n event : ℕ) (levels : ℕ → Level) (xs : List PortEvent) → Lined n event xs → Follows xs seen event → Walks n levels xs (scan seen levels (moves_from p loops event xs) (map step_of (moves_from p loops event xs)))
   walk n event levels [] lined follows = λ b. (λ c. absurd (nothing b c), λ r. absurd (none_there r.place r.stands))
@@ -569,4 +569,4 @@ module _ (known : List Key) (events : List Event) (p : Program) (loops : Option 
   walk n event levels (arm_ends ∷ xs) lined follows = walk n (event + 1) levels xs lined (follow_next _ xs seen event follows)
   walk n event levels (begins ∷ xs) lined follows = walk n (event + 1) (λ slot. begun (levels slot)) xs lined (follow_next _ xs seen event follows)
   walk n event levels (next ∷ xs) lined follows = walk n (event + 1) (λ slot. kept_back (levels slot)) xs lined (follow_next _ xs seen event follows)
-  walk n event levels (ends ∷ xs) lined follows = walk n (event + 1) (λ slot. settled (kept_back (levels slot))) xs lined (follow_next _ xs seen event follows)
+  walk n event levels (ends ∷ xs) lined follows = walk n (event + 1) (λ slot. settled_slot_level (kept_back (levels slot))) xs lined (follow_next _ xs seen event follows)

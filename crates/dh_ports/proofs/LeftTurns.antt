@@ -6,8 +6,8 @@ use Rattle.dh_ports.specs.declared.levels.Levels.{Levels}
 use Rattle.dh_ports.specs.declared.levels.Step.{Step}
 use Rattle.dh_ports.specs.declared.levels.Step.TheVariants as step
 use Rattle.std.specs.List.{AllByRecursion}
-use Rattle.dh_ports.specs.Logs.{AreMarks}
-use Rattle.dh_ports.specs.Levels.{Level, start, advance, left_before, lefts_of, level_at, level_of, IsKept, FrameKept}
+use Rattle.dh_ports.specs.Logs.{AreSlotMarks}
+use Rattle.dh_ports.specs.Levels.{Level, start, advance, left_before, left_before_each, level_at, level_of, LevelsKept, FrameKept}
 use Rattle.dh_ports.proofs.LogFacts.{no_marks}
 
 -- equal levels leave the same
@@ -19,10 +19,10 @@ before_same l l1 e step.Next = refl
 before_same l l1 e step.End = refl
 before_same l l1 e step.Back = refl
 
-pub lefts_same : (l l1 : ℕ → Level) → ((m : ℕ) → l m ≡ l1 m) → (steps : List Step) → lefts_of l steps ≡ lefts_of l1 steps
+pub lefts_same : (l l1 : ℕ → Level) → ((m : ℕ) → l m ≡ l1 m) → (steps : List Step) → left_before_each l steps ≡ left_before_each l1 steps
 lefts_same l l1 e [] = refl
 lefts_same l l1 e (s ∷ rest) =
-    ap (λ n. n ∷ lefts_of (λ m. advance m s (l m)) rest) (before_same l l1 e s)
+    ap (λ n. n ∷ left_before_each (λ m. advance m s (l m)) rest) (before_same l l1 e s)
     ∙ ap (λ r. left_before s l1 ∷ r) (lefts_same (λ m. advance m s (l m)) (λ m. advance m s (l1 m)) (λ m. ap (λ v. advance m s v) (e m)) rest)
 
 -- where nothing is noted, what is left is where it starts
@@ -30,11 +30,11 @@ start_level : (left : List ℕ) (log lows : List Mark) (outer : List Frame) (s :
 start_level left log lows outer s e0 e1 e2 = ap (λ l. level_of left l lows outer s) e0 ∙ (ap (λ l. level_of left [] l outer s) e1 ∙ ap (λ o. level_of left [] [] o s) e2)
 
 -- levels of which nothing is noted
-pub levels_start : (l : Levels) → l.log.items ≡ [] → l.lows.items ≡ [] → l.outer.items ≡ [] → IsKept l × ((s : ℕ) → level_at l s ≡ start (slice_index l.left.items s))
+pub levels_start : (l : Levels) → l.log.items ≡ [] → l.lows.items ≡ [] → l.outer.items ≡ [] → LevelsKept l × ((s : ℕ) → level_at l s ≡ start (slice_index l.left.items s))
 levels_start l e0 e1 e2 = (
   record {
-    log = subst (λ (m : List Mark). AreMarks (length l.left.items) m) (sym e0) (no_marks (length l.left.items));
-    lows = subst (λ (m : List Mark). AreMarks (length l.left.items) m) (sym e1) (no_marks (length l.left.items));
+    log = subst (λ (m : List Mark). AreSlotMarks (length l.left.items) m) (sym e0) (no_marks (length l.left.items));
+    lows = subst (λ (m : List Mark). AreSlotMarks (length l.left.items) m) (sym e1) (no_marks (length l.left.items));
     outer = subst (λ (o : List Frame). AllByRecursion (FrameKept (length l.left.items)) o) (sym e2) tt;
   },
   λ s. start_level l.left.items l.log.items l.lows.items l.outer.items s e0 e1 e2,

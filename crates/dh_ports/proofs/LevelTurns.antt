@@ -14,7 +14,7 @@ use Rattle.dh_ports.specs.declared.copies.Paths.{Paths}
 use Rattle.dh_events.specs.declared.dependence.Scope.{Scope}
 use Rattle.dh_ports.specs.Banks.{path_of_number, keys_in, key_number}
 use Rattle.dh_ports.specs.Claims.{source_of}
-use Rattle.dh_ports.specs.Copies.{copies_round, copy_in, greatest_key, key_of_levels, AreLevels, ArePaths, IsSpread}
+use Rattle.dh_ports.specs.Copies.{copies_round, copy_of_level, greatest_key, key_of_levels, AreLevels, AreAccessPaths, IsSpreadLevel}
 use Rattle.dh_events.specs.Scopes.{AreScopes}
 use Rattle.dh_meaning.specs.Paths.{copies_in}
 use Rattle.dh_ports.proofs.CopyTurns.{not_none}
@@ -106,7 +106,7 @@ module _ (scopes : List (Option Scope)) (loops : List Counter) (access : Expr) (
       past : drop n loops ≡ []
       past = ap (λ k. drop k loops) e ∙ all_past loops
 
-  pub paths_done : (paths : Paths) (levels : List Level) (count keys : ℕ) → LevelsSoFar scopes loops access writes 0 levels count keys → paths.count ≡ count → paths.levels.items ≡ reverse levels → ArePaths scopes loops access writes paths
+  pub paths_done : (paths : Paths) (levels : List Level) (count keys : ℕ) → LevelsSoFar scopes loops access writes 0 levels count keys → paths.count ≡ count → paths.levels.items ≡ reverse levels → AreAccessPaths scopes loops access writes paths
   paths_done paths levels count keys so e f = record {
     count = e ∙ (so.counted ∙ min-eq_left (below (copies_round loops) few));
     levels = λ bs are one. subst (λ (ls : List Level). AreLevels (depends bs (source_of loops writes access)) 0 (loop_factors loops) ls) (sym f) (so.each bs are one).0;
@@ -184,7 +184,7 @@ key_told picks level (f ∷ fs) (l ∷ ls) n h =
     by true = refl
     by false = none ((n / copies_in fs) % f)
 
-pub levels_spread : (picks : ℕ → Bool) (level : ℕ) (fs : List ℕ) (ls : List Level) → 1 ≤ copies_in fs → AreLevels picks level fs ls → AllByRecursion IsSpread ls
+pub levels_spread : (picks : ℕ → Bool) (level : ℕ) (fs : List ℕ) (ls : List Level) → 1 ≤ copies_in fs → AreLevels picks level fs ls → AllByRecursion IsSpreadLevel ls
 levels_spread picks level [] [] e h = tt
 levels_spread picks level [] (l ∷ ls) e h = absurd h
 levels_spread picks level (f ∷ fs) [] e h = absurd h
@@ -229,13 +229,13 @@ greatest_below picks level (f ∷ fs) (l ∷ ls) e h =
     by true (suc f) some e = first f (keys_in picks (level + 1) fs) (greatest_key ls) e
     by false f some e = other f _ _ e
 
-pub copy_told : (picks : ℕ → Bool) (level : ℕ) (fs : List ℕ) (ls : List Level) (n k : ℕ) → AreLevels picks level fs ls → copy_in ls k n ≡ slice_index_or (path_of_number fs n) k 0
+pub copy_told : (picks : ℕ → Bool) (level : ℕ) (fs : List ℕ) (ls : List Level) (n k : ℕ) → AreLevels picks level fs ls → copy_of_level ls k n ≡ slice_index_or (path_of_number fs n) k 0
 copy_told picks level [] [] n k h = refl
 copy_told picks level [] (l ∷ ls) n k h = absurd h
 copy_told picks level (f ∷ fs) [] n k h = absurd h
 copy_told picks level (f ∷ fs) (l ∷ ls) n zero h = ap (λ s. (n / s) % l.factor) h.0.1.0 ∙ ap (λ m. (n / copies_in fs) % m) h.0.0
 copy_told picks level (f ∷ fs) (l ∷ ls) n (suc k) h =
-    ap (λ (b : Bool). if b then (n / l.stride) % l.factor else copy_in ls (suc k - 1) n) (not_none k) ∙ (ap (λ m. copy_in ls m n) (back_one k) ∙ copy_told picks (level + 1) fs ls n k h.1)
+    ap (λ (b : Bool). if b then (n / l.stride) % l.factor else copy_of_level ls (suc k - 1) n) (not_none k) ∙ (ap (λ m. copy_of_level ls m n) (back_one k) ∙ copy_told picks (level + 1) fs ls n k h.1)
   where
     back_one : (i : ℕ) → suc i - 1 ≡ i
     back_one i = omega arith

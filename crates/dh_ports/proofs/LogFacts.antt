@@ -6,7 +6,7 @@ use Rattle.std.proofs.lemmas.List.{drop_all, length-set}
 use Rattle.dh_ports.specs.declared.marks.Mark.{Mark}
 use Rattle.dh_events.proofs.Turns.{at_place, index_set}
 use Rattle.std.specs.Prelude.{Some, slice_get}
-use Rattle.dh_ports.specs.Logs.{at_begin, least, AreMarks, NotesLow, NotesLows, marks_now}
+use Rattle.dh_ports.specs.Logs.{at_begin, least, AreSlotMarks, NotesLow, NotesLows, marks_now}
 
 abbrev pub mark : ℕ → ℕ → Mark
 mark slot left = record { slot = slot; left = left }
@@ -97,13 +97,13 @@ logged_turn left log k v m inside =
     by_test (inl e) = ap (λ t. if t then slice_index left k else (if t then v else slice_index left m)) e ∙ ap (λ j. slice_index left j) (eqb-true k m e)
     by_test (inr e) = ap (λ t. if t then slice_index left k else (if t then v else slice_index left m)) e
 
-pub marks_more : (n : ℕ) (log : List Mark) (k v : ℕ) → AreMarks n log → k < n → AreMarks n (log ++ mark k v ∷ [])
+pub marks_more : (n : ℕ) (log : List Mark) (k v : ℕ) → AreSlotMarks n log → k < n → AreSlotMarks n (log ++ mark k v ∷ [])
 marks_more n [] k v are inside zero b is = let e : mark k v ≡ b = cc in subst (λ (x : Mark). x.slot < n) e inside
 marks_more n [] k v are inside (suc i) b is = cc
 marks_more n (x ∷ log) k v are inside zero b is = are zero b is
 marks_more n (x ∷ log) k v are inside (suc i) b is = marks_more n log k v (λ j c at. are (suc j) c at) inside i b is
 
-pub no_marks : (n : ℕ) → AreMarks n []
+pub no_marks : (n : ℕ) → AreSlotMarks n []
 no_marks n i b is = cc
 
 -- how far a lowering is: what is left, the log, and the lows still to come
@@ -111,7 +111,7 @@ pub record IsLowering (left0 : List ℕ) (log0 lows0 : List Mark) (left : List �
   pub long : length left ≡ length left0
   pub lowered : (m : ℕ) → least lows m (slice_index left m) ≡ least lows0 m (slice_index left0 m)
   pub logged : (m : ℕ) → at_begin log m (slice_index left m) ≡ at_begin log0 m (slice_index left0 m)
-  pub marks : AreMarks (length left0) log0 → AreMarks (length left0) log
+  pub marks : AreSlotMarks (length left0) log0 → AreSlotMarks (length left0) log
   pub few : length log + length lows ≤ length log0 + length lows0
 
 few_kept : (a r n : ℕ) → a + suc r ≤ n → a + r ≤ n
@@ -145,7 +145,7 @@ module _ (left0 : List ℕ) (log0 lows0 : List Mark) (left : List ℕ) (log lows
         few = few_turn log (mark low.slot (slice_index left low.slot)) (length rest) (length log0 + length lows0) so.few;
       }))
 
-pub undoing_turn : (n : ℕ) (left : List ℕ) (log : List Mark) (i m w : ℕ) (d : Mark) → AreMarks n log → length left ≡ n → 0 < i → i ≤ length log
+pub undoing_turn : (n : ℕ) (left : List ℕ) (log : List Mark) (i m w : ℕ) (d : Mark) → AreSlotMarks n log → length left ≡ n → 0 < i → i ≤ length log
     → at_begin (take i log) m (slice_index left m) ≡ w
     → at_begin (take (i - 1) log) m (slice_index (slice_set left (get_or log (i - 1) d).slot (get_or log (i - 1) d).left) m) ≡ w
 undoing_turn n left log i m w d are long some within is =
@@ -168,8 +168,8 @@ module _ (left : List ℕ) (log log1 : List Mark) (k x v : ℕ) (inside : k < le
       ap (λ l. at_begin l m (slice_index (slice_set left k v) m)) (more ∙ ap (λ n. log ++ mark k n ∷ []) (is ∙ any_default left k x 0 inside))
       ∙ logged_turn left log k v m inside
 
-  pub spent_marks : AreMarks (length left) log → AreMarks (length (slice_set left k v)) log1
-  spent_marks are = subst (λ (n : ℕ). AreMarks n log1) (sym (length-set left k v)) (subst (λ (l : List Mark). AreMarks (length left) l) (sym more) (marks_more (length left) log k x are inside))
+  pub spent_marks : AreSlotMarks (length left) log → AreSlotMarks (length (slice_set left k v)) log1
+  spent_marks are = subst (λ (n : ℕ). AreSlotMarks n log1) (sym (length-set left k v)) (subst (λ (l : List Mark). AreSlotMarks (length left) l) (sym more) (marks_more (length left) log k x are inside))
 
 -- the lows after a part
 least_append : (a b : List Mark) (m x : ℕ) → least (a ++ b) m x ≡ least a m (least b m x)
@@ -242,7 +242,7 @@ lower_known (b ∷ lows) zero k v w m x e =
     by_test false = refl
 lower_known (b ∷ lows) (suc i) k v w m x e = ap (λ n. if b.slot == m then min b.left n else n) (lower_known lows i k v w m x e)
 
-set_marks : (n : ℕ) (lows : List Mark) (i : ℕ) (b : Mark) → b.slot < n → AreMarks n lows → AreMarks n (slice_set lows i b)
+set_marks : (n : ℕ) (lows : List Mark) (i : ℕ) (b : Mark) → b.slot < n → AreSlotMarks n lows → AreSlotMarks n (slice_set lows i b)
 set_marks n [] i b inside are j c e = are j c e
 set_marks n (x ∷ lows) zero b inside are zero c e = subst (λ (y : Mark). y.slot < n) (same_mark b c e) inside
 set_marks n (x ∷ lows) zero b inside are (suc j) c e = are (suc j) c e
@@ -253,13 +253,13 @@ set_marks n (x ∷ lows) (suc i) b inside are (suc j) c e = set_marks n lows i b
 pub low_added : (old new : List Mark) (low : Mark) → new ≡ old ++ low ∷ [] → NotesLow old new low
 low_added old new low e = record {
   noted = λ m x. ap (λ l. least l m x) e;
-  marks = λ n inside are. subst (λ (l : List Mark). AreMarks n l) (sym e) (marks_more n old low.slot low.left are inside);
+  marks = λ n inside are. subst (λ (l : List Mark). AreSlotMarks n l) (sym e) (marks_more n old low.slot low.left are inside);
 }
 
 pub low_put : (old new : List Mark) (place before left : ℕ) (low : Mark) → slice_get old place ≡ Some (mark low.slot before) → left ≡ min before low.left → new ≡ slice_set old place (mark low.slot left) → NotesLow old new low
 low_put old new place before left low at is e = record {
   noted = λ m x. ap (λ l. least l m x) so ∙ lower_known old place low.slot low.left before m x at;
-  marks = λ n inside are. subst (λ (l : List Mark). AreMarks n l) (sym so) (set_marks n old place (mark low.slot (min before low.left)) inside are);
+  marks = λ n inside are. subst (λ (l : List Mark). AreSlotMarks n l) (sym so) (set_marks n old place (mark low.slot (min before low.left)) inside are);
 }
   where
     so : new ≡ slice_set old place (mark low.slot (min before low.left))
@@ -276,10 +276,10 @@ module _ (left : List ℕ) (log : List Mark) (i : ℕ) (d : Mark) (start old new
       ∙ (ap (λ l. least (old ++ marks_now left l) m x) (sym (at_place log i d inside))
       ∙ so m x))))
 
-  pub lows_marks : ((n : ℕ) → AreMarks n log → AreMarks n start → AreMarks n old) → (n : ℕ) → AreMarks n log → AreMarks n start → AreMarks n new
+  pub lows_marks : ((n : ℕ) → AreSlotMarks n log → AreSlotMarks n start → AreSlotMarks n old) → (n : ℕ) → AreSlotMarks n log → AreSlotMarks n start → AreSlotMarks n new
   lows_marks so n are first = note.marks n (are i (get_or log i d) (slice_get-get_or log i d inside)) (so n are first)
 
-pub lows_done : (left : List ℕ) (log : List Mark) (i : ℕ) (start old : List Mark) → length log ≤ i → ((m x : ℕ) → least (old ++ marks_now left (drop i log)) m x ≡ least (start ++ marks_now left log) m x) → ((n : ℕ) → AreMarks n log → AreMarks n start → AreMarks n old) → NotesLows left log start old
+pub lows_done : (left : List ℕ) (log : List Mark) (i : ℕ) (start old : List Mark) → length log ≤ i → ((m x : ℕ) → least (old ++ marks_now left (drop i log)) m x ≡ least (start ++ marks_now left log) m x) → ((n : ℕ) → AreSlotMarks n log → AreSlotMarks n start → AreSlotMarks n old) → NotesLows left log start old
 lows_done left log i start old past so marks = record {
   noted = λ m x.
       ap (λ l. least l m x) (sym (append-nil old)) ∙ (ap (λ l. least (old ++ marks_now left l) m x) (sym (drop_all i log past)) ∙ so m x);

@@ -4,18 +4,18 @@ use Rattle.std.proofs.Common.{◌≡◌, ℕ, ◌-◌, ◌<◌, ◌==◌, true, 
 use Rattle.std.proofs.lemmas.Bool.{eqb-true, cases_Bool}
 use Rattle.dh_ports.specs.declared.marks.Mark.{Mark}
 use Rattle.dh_ports.specs.Logs.{at_begin, least, marks_now}
-use Rattle.dh_ports.specs.Levels.{Floor, Level, level, taken, kept_back}
+use Rattle.dh_ports.specs.Levels.{Floor, Level, slot_level, taken, kept_back}
 use Rattle.dh_events.proofs.Turns.{index_set}
 use Rattle.dh_ports.proofs.LogFacts.{mark, logged_turn, lows_after}
 
 -- the level of a slot, from what is left and the marks
 abbrev pub level_by : List ℕ → List Mark → List Mark → (ℕ → List Floor) → (slot : ℕ) → Level
 level_by left log lows floors slot =
-    level (slice_index left slot) (at_begin log slot (slice_index left slot)) (least lows slot (at_begin log slot (slice_index left slot))) (floors (at_begin log slot (slice_index left slot)))
+    slot_level (slice_index left slot) (at_begin log slot (slice_index left slot)) (least lows slot (at_begin log slot (slice_index left slot))) (floors (at_begin log slot (slice_index left slot)))
 
 -- the level where what was left at the part's begin is known
 abbrev level_with : List Mark → (ℕ → List Floor) → (slot now base : ℕ) → Level
-level_with lows floors slot now base = level now base (least lows slot base) (floors base)
+level_with lows floors slot now base = slot_level now base (least lows slot base) (floors base)
 
 -- another number of a slot, with a mark of the one before
 module _ (left : List ℕ) (log log1 lows : List Mark) (floors : ℕ → List Floor) (k v s : ℕ) (inside : k < length left) (more : log1 ≡ log ++ mark k (slice_index left k) ∷ []) where
@@ -41,6 +41,6 @@ pub back_level : (left left1 : List ℕ) (log log1 lows lows1 : List Mark) (floo
     → level_by left1 log1 lows1 floors s ≡ kept_back (level_by left log lows floors s)
 back_level left left1 log log1 lows lows1 floors s undone empty noted =
     ap (λ l. level_by left1 l lows1 floors s) empty
-    ∙ (ap (λ n. level n n (least lows1 s n) (floors n)) undone
-    ∙ ap (λ m. level (at_begin log s (slice_index left s)) (at_begin log s (slice_index left s)) m (floors (at_begin log s (slice_index left s))))
+    ∙ (ap (λ n. slot_level n n (least lows1 s n) (floors n)) undone
+    ∙ ap (λ m. slot_level (at_begin log s (slice_index left s)) (at_begin log s (slice_index left s)) m (floors (at_begin log s (slice_index left s))))
     (noted (at_begin log s (slice_index left s)) ∙ lows_after lows log left s (at_begin log s (slice_index left s)) refl))

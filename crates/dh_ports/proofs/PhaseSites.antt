@@ -16,7 +16,7 @@ use Rattle.dh_events.specs.declared.events.Site.{Site}
 use Rattle.dh_events.specs.declared.noting.Open.{Open}
 use Rattle.dh_events.specs.Incidents.{PortEvent, touches, assigned, arm_begins, arm_ends, begins, next, ends, site_at, term_incidents, form_incidents, terms_incidents, maybe_incidents, target_incidents, is_stepped, closed, released, phase_at, phase_of, tested, inside_choice, into_combine, round_inside, when_parted, arms_part, are_parts, open_after, part_open, open_combine, incidents, command_incidents, other_incidents, combine_incidents, groups_incidents, part_incidents}
 use Rattle.dh_tree.specs.PhaseKinds.{phase_kind, form_phase_kind, other_phase_kind, groups_phase_kind, part_phase_kind}
-use Rattle.dh_ports.specs.Courses.{count}
+use Rattle.dh_ports.specs.Courses.{access_count}
 use Rattle.dh_ports.proofs.CourseTies.{count_append}
 use Rattle.dh_ports.proofs.IncidentTies.{term_count, maybe_count, target_count, action_count, part_count, terms_count}
 use Rattle.dh_ports.proofs.PhaseRuns.{tag_of, stands, flat_all, flat, or_none, or_assoc, or_both, runs_nil, flat_append, flat_of_list, stands_append}
@@ -41,11 +41,11 @@ with_none n = omega arith
 suc_sum : (a b : ℕ) → suc a + b ≡ a + suc b
 suc_sum a b = omega arith
 
-pub tells_append : (n : ℕ) (xs ys : List PortEvent) (k p : ℕ) → tells n (xs ++ ys) k p ≡ (tells n xs k p || tells (n + count xs) ys k p)
+pub tells_append : (n : ℕ) (xs ys : List PortEvent) (k p : ℕ) → tells n (xs ++ ys) k p ≡ (tells n xs k p || tells (n + access_count xs) ys k p)
 tells_append n [] ys k p = ap (λ m. tells m ys k p) (with_none n)
 tells_append n (touches t w s ∷ xs) ys k p =
-    ap (λ b. ((s.phase == p) && (n == k)) || b) (tells_append (suc n) xs ys k p ∙ ap (λ m. tells (suc n) xs k p || tells m ys k p) (suc_sum n (count xs)))
-    ∙ sym (or_assoc ((s.phase == p) && (n == k)) (tells (suc n) xs k p) (tells (n + suc (count xs)) ys k p))
+    ap (λ b. ((s.phase == p) && (n == k)) || b) (tells_append (suc n) xs ys k p ∙ ap (λ m. tells (suc n) xs k p || tells m ys k p) (suc_sum n (access_count xs)))
+    ∙ sym (or_assoc ((s.phase == p) && (n == k)) (tells (suc n) xs k p) (tells (n + suc (access_count xs)) ys k p))
 tells_append n (assigned e ∷ xs) ys k p = tells_append n xs ys k p
 tells_append n (arm_begins ∷ xs) ys k p = tells_append n xs ys k p
 tells_append n (arm_ends ∷ xs) ys k p = tells_append n xs ys k p
@@ -54,7 +54,7 @@ tells_append n (next ∷ xs) ys k p = tells_append n xs ys k p
 tells_append n (ends ∷ xs) ys k p = tells_append n xs ys k p
 
 -- the same by how many accesses the first ones have
-tells_two : (n m : ℕ) (xs ys : List PortEvent) (k p : ℕ) (x y : Bool) → count xs ≡ m → tells n xs k p ≡ x → tells (n + m) ys k p ≡ y → tells n (xs ++ ys) k p ≡ (x || y)
+tells_two : (n m : ℕ) (xs ys : List PortEvent) (k p : ℕ) (x y : Bool) → access_count xs ≡ m → tells n xs k p ≡ x → tells (n + m) ys k p ≡ y → tells n (xs ++ ys) k p ≡ (x || y)
 tells_two n m xs ys k p x y c e f = tells_append n xs ys k p ∙ or_both _ _ _ _ e (ap (λ l. tells (n + l) ys k p) c ∙ f)
 
 -- marks are no accesses
@@ -63,7 +63,7 @@ parted_tells true x n ys k p e = e
 parted_tells false x n ys k p e = refl
 
 behind_tells : (b : Bool) (x : PortEvent) (n : ℕ) (xs : List PortEvent) (k p : ℕ) → ((m : ℕ) → tells m (x ∷ []) k p ≡ false) → tells n (xs ++ when_parted b x) k p ≡ tells n xs k p
-behind_tells true x n xs k p e = tells_append n xs (x ∷ []) k p ∙ (ap (λ v. tells n xs k p || v) (e (n + count xs)) ∙ or_none (tells n xs k p))
+behind_tells true x n xs k p e = tells_append n xs (x ∷ []) k p ∙ (ap (λ v. tells n xs k p || v) (e (n + access_count xs)) ∙ or_none (tells n xs k p))
 behind_tells false x n xs k p e = tells_append n xs [] k p ∙ or_none (tells n xs k p)
 
 one_behind : (x : PortEvent) (n : ℕ) (xs : List PortEvent) (k p : ℕ) → ((m : ℕ) → tells m (x ∷ []) k p ≡ false) → tells n (xs ++ x ∷ []) k p ≡ tells n xs k p
@@ -102,12 +102,12 @@ and_none : (b : Bool) (x : Bool) → x ≡ false → (b && x) ≡ false
 and_none true x e = e
 and_none false x e = refl
 
-row_tells : (q n : ℕ) (xs : List PortEvent) (k p : ℕ) → AllIn q xs → tells n xs k p ≡ ((q == p) && is_between k n (count xs))
+row_tells : (q n : ℕ) (xs : List PortEvent) (k p : ℕ) → AllIn q xs → tells n xs k p ≡ ((q == p) && is_between k n (access_count xs))
 row_tells q n [] k p h = sym (and_none (q == p) (is_between k n 0) (within_none k n))
 row_tells q n (touches t w s ∷ xs) k p h =
     ap (λ v. ((v == p) && (n == k)) || tells (suc n) xs k p) h.0
     ∙ (ap (λ v. ((q == p) && (n == k)) || v) (row_tells q (suc n) xs k p h.1)
-    ∙ and_or (q == p) (n == k) (is_between k (suc n) (count xs)) (is_between k n (suc (count xs))) (within_next k n (count xs)))
+    ∙ and_or (q == p) (n == k) (is_between k (suc n) (access_count xs)) (is_between k n (suc (access_count xs))) (within_next k n (access_count xs)))
 row_tells q n (assigned e ∷ xs) k p h = row_tells q n xs k p h
 row_tells q n (arm_begins ∷ xs) k p h = row_tells q n xs k p h
 row_tells q n (arm_ends ∷ xs) k p h = row_tells q n xs k p h
@@ -115,7 +115,7 @@ row_tells q n (begins ∷ xs) k p h = row_tells q n xs k p h
 row_tells q n (next ∷ xs) k p h = row_tells q n xs k p h
 row_tells q n (ends ∷ xs) k p h = row_tells q n xs k p h
 
-counted_row : (q n c : ℕ) (xs : List PortEvent) (k p : ℕ) → AllIn q xs → count xs ≡ c → tells n xs k p ≡ ((q == p) && is_between k n c)
+counted_row : (q n c : ℕ) (xs : List PortEvent) (k p : ℕ) → AllIn q xs → access_count xs ≡ c → tells n xs k p ≡ ((q == p) && is_between k n c)
 counted_row q n c xs k p h e = row_tells q n xs k p h ∙ ap (λ m. (q == p) && is_between k n m) e
 
 mutual
@@ -158,7 +158,7 @@ own_run true true = refl
 own_run true false = refl
 own_run false x = refl
 
-value_tells : (q n : ℕ) (xs : List PortEvent) (e : Option ℕ) (c k p : ℕ) → AllIn q xs → count xs ≡ c → tells n (xs ++ assigned e ∷ []) k p ≡ ((((q == p) && (is_between k n c || false)) || false) || false)
+value_tells : (q n : ℕ) (xs : List PortEvent) (e : Option ℕ) (c k p : ℕ) → AllIn q xs → access_count xs ≡ c → tells n (xs ++ assigned e ∷ []) k p ≡ ((((q == p) && (is_between k n c || false)) || false) || false)
 value_tells q n xs e c k p h f = one_behind (assigned e) n xs k p (λ m. refl) ∙ (counted_row q n c xs k p h f ∙ own_run (q == p) (is_between k n c))
 
 -- An `if`.
@@ -256,7 +256,7 @@ block_fits : (s : Bool) (k m : ℕ) → s ≡ nat_le 2 m → k ≡ m → BlockFi
 block_fits true k m e f = tt
 block_fits false k m e f = subst (λ (n : ℕ). n ≤ 1) (sym f) (few_size m e)
 
-store_count : (s : Site) (value target : Term) → count (term_incidents s value ++ target_incidents s target) ≡ term_accesses value + term_accesses target
+store_count : (s : Site) (value target : Term) → access_count (term_incidents s value ++ target_incidents s target) ≡ term_accesses value + term_accesses target
 store_count s value target = count_append (term_incidents s value) (target_incidents s target) ∙ sums _ _ _ _ (term_count s value) (target_count s target)
   where
     sums : (a b c d : ℕ) → a ≡ c → b ≡ d → a + b ≡ c + d

@@ -16,11 +16,11 @@ use Rattle.dh_ports.specs.declared.levels.Step.TheVariants as step
 use Rattle.dh_ports.specs.declared.moves.Move.{Move}
 use Rattle.dh_ports.specs.declared.moves.Move.TheVariants as move
 use Rattle.dh_ports.specs.declared.moves.Run.{Run}
-use Rattle.dh_ports.specs.Levels.{advance, left_before, lefts_of, level_at, IsKept}
+use Rattle.dh_ports.specs.Levels.{advance, left_before, left_before_each, level_at, LevelsKept}
 use Rattle.dh_ports.specs.Orders.{is_quiet_at, is_quiet_move, order_of, order_step, slot_in, step_in, AreMarked}
 use Rattle.dh_ports.specs.Passing.{late_from, KeepsTo}
-use Rattle.dh_ports.specs.Runs.{at_slot, moves_of_run, row_of, slot_of}
-use Rattle.dh_ports.specs.Scanned.{all_late, bank_key, is_late, late_at, place_in, take_of}
+use Rattle.dh_ports.specs.Runs.{at_slot, moves_of_run, moves_in_row, claimed_slot}
+use Rattle.dh_ports.specs.Scanned.{all_late, bank_key, is_late, late_at, move_place, take_of}
 use Rattle.dh_ports.proofs.LateWalk.{slot_found}
 
 absurd : {A : Type 0} → ⊥ → A
@@ -107,16 +107,16 @@ module _ (known : List Key) (marked : List ℕ) (events : List Event) (are : Are
   abbrev passed : (old : Levels) (m : Move) (s : Step) (rest : List Move) → List Breach
   passed old m s rest =
       if is_late s (left_before s (λ k. level_at old k))
-      then late_at (place_in (all_seen events) m) ++ all_late (all_seen events) rest (map (order_step known events) rest) (lefts_of (λ k. advance k s (level_at old k)) (map (order_step known events) rest))
-      else all_late (all_seen events) rest (map (order_step known events) rest) (lefts_of (λ k. advance k s (level_at old k)) (map (order_step known events) rest))
+      then late_at (move_place (all_seen events) m) ++ all_late (all_seen events) rest (map (order_step known events) rest) (left_before_each (λ k. advance k s (level_at old k)) (map (order_step known events) rest))
+      else all_late (all_seen events) rest (map (order_step known events) rest) (left_before_each (λ k. advance k s (level_at old k)) (map (order_step known events) rest))
 
-  quiet_row : (old : Levels) (m : Move) → ((slot : ℕ) → order_step known events (at_slot m slot) ≡ step.Other) → (slot many : ℕ) (rest : List Move) → late_from known events old (row_of m slot many ++ rest) ≡ late_from known events old rest
+  quiet_row : (old : Levels) (m : Move) → ((slot : ℕ) → order_step known events (at_slot m slot) ≡ step.Other) → (slot many : ℕ) (rest : List Move) → late_from known events old (moves_in_row m slot many ++ rest) ≡ late_from known events old rest
   quiet_row old m all slot zero rest = refl
-  quiet_row old m all slot (suc many) rest = ap (λ s. passed old (at_slot m slot) s (row_of m (suc slot) many ++ rest)) (all slot) ∙ quiet_row old m all (suc slot) many rest
+  quiet_row old m all slot (suc many) rest = ap (λ s. passed old (at_slot m slot) s (moves_in_row m (suc slot) many ++ rest)) (all slot) ∙ quiet_row old m all (suc slot) many rest
 
   -- a run of claims in a phase that is not marked keeps all
-  pub quiet_keeps : (kept : Option Breach) (old : Levels) (r : Run) (b : Bool) → IsKept old → b ≡ is_quiet_move marked events r.first → b ≡ true → KeepsTo known events kept old (moves_of_run r) kept old
+  pub quiet_keeps : (kept : Option Breach) (old : Levels) (r : Run) (b : Bool) → LevelsKept old → b ≡ is_quiet_move marked events r.first → b ≡ true → KeepsTo known events kept old (moves_of_run r) kept old
   quiet_keeps kept old r b is_kept told quiet = record {
     kept = is_kept;
-    late = λ rest. ap (least_of kept) (sym (quiet_row old r.first (quiet_step r.first (sym told ∙ quiet)) (slot_of r.first) (r.end - slot_of r.first) rest));
+    late = λ rest. ap (least_of kept) (sym (quiet_row old r.first (quiet_step r.first (sym told ∙ quiet)) (claimed_slot r.first) (r.end - claimed_slot r.first) rest));
   }

@@ -3,7 +3,7 @@ use Rattle.std.proofs.Common.{◌≡◌, ℕ, suc, add-one, ◌+◌, ◌*◌, �
 use Rattle.std.proofs.lemmas.Bool.{cases_Bool, eqb-true, eq-eqb}
 use Rattle.dh_events.specs.Tables.{with_number}
 use Rattle.dh_ports.specs.declared.copies.Reach.{Reach}
-use Rattle.dh_ports.specs.Copies.{all_lane_banks, bank_by, bank_of_lanes, counted_at, key_by, keys_from, same_number, AreCounts, TellsPaths}
+use Rattle.dh_ports.specs.Copies.{all_lane_banks, bank_at_path_number, bank_of_lanes, bank_counts_raised, key_by, key_count_from, same_number, AreKeyCounts, TellsPaths}
 use Rattle.dh_ports.proofs.CopyTurns.{bank_most}
 use Rattle.dh_ports.proofs.KeyCounts.{CountsSoFar, count_few, counts_beyond, counts_more, counts_none, counts_same, met, reaching_most}
 
@@ -16,22 +16,22 @@ numbers_same m n e = eqb-true m n e
 -- the counts, and the pairs seen, when so many of these paths were gone through
 abbrev pub RangeCounted : Reach → (from banks moment step : ℕ) → (counts : List ℕ) → (seen : ℕ → ℕ) → Type 0
 RangeCounted reach from banks moment step counts seen =
-    CountsSoFar same_number own_number numbers_same (λ k. from + k) (key_by reach) (bank_by reach) (λ k. key_by reach (from + k)) reach.paths.count banks moment step counts seen
+    CountsSoFar same_number own_number numbers_same (λ k. from + k) (key_by reach) (bank_at_path_number reach) (λ k. key_by reach (from + k)) reach.paths.count banks moment step counts seen
 
 module _ (reach : Reach) (from banks moment : ℕ) where
   pub range_none : (counts : List ℕ) (seen : ℕ → ℕ) → counts ≡ replicate banks 0 → ((pair : ℕ) → seen pair < moment) → RangeCounted reach from banks moment 0 counts seen
-  range_none counts seen e h = counts_none same_number own_number numbers_same (λ k. from + k) (key_by reach) (bank_by reach) (λ k. key_by reach (from + k)) reach.paths.count banks moment counts seen e h
+  range_none counts seen e h = counts_none same_number own_number numbers_same (λ k. from + k) (key_by reach) (bank_at_path_number reach) (λ k. key_by reach (from + k)) reach.paths.count banks moment counts seen e h
 
-  pub range_done : (many step : ℕ) (counts : List ℕ) (seen : ℕ → ℕ) → step ≡ many → RangeCounted reach from banks moment step counts seen → AreCounts reach from many banks counts
+  pub range_done : (many step : ℕ) (counts : List ℕ) (seen : ℕ → ℕ) → step ≡ many → RangeCounted reach from banks moment step counts seen → AreKeyCounts reach from many banks counts
   range_done many step counts seen e so = record {
     long = so.long;
-    each = λ bank inside. so.counted bank inside ∙ ap (λ n. keys_from reach from n bank) e;
+    each = λ bank inside. so.counted bank inside ∙ ap (λ n. key_count_from reach from n bank) e;
   }
 
   -- none was seen later
   pub range_past : (step : ℕ) (counts : List ℕ) (seen : ℕ → ℕ) → RangeCounted reach from banks moment step counts seen → (pair : ℕ) → seen pair ≤ moment
   range_past step counts seen so pair =
-      by (met same_number own_number numbers_same (λ k. from + k) (key_by reach) (bank_by reach) (λ k. key_by reach (from + k)) reach.paths.count banks step pair) (so.was pair) (so.was_not pair)
+      by (met same_number own_number numbers_same (λ k. from + k) (key_by reach) (bank_at_path_number reach) (λ k. key_by reach (from + k)) reach.paths.count banks step pair) (so.was pair) (so.was_not pair)
     where
       at_moment : (m n : ℕ) → m ≡ n → m ≤ n
       at_moment m n e = omega (arith, e)
@@ -47,38 +47,38 @@ module _ (reach : Reach) (from banks moment : ℕ) where
   module _ (step : ℕ) (counts : List ℕ) (seen : ℕ → ℕ) (tells : TellsPaths reach) (so : RangeCounted reach from banks moment step counts seen) where
     pub range_few : (bank : ℕ) → bank < banks → slice_index counts bank ≤ step
     range_few bank inside =
-        count_few same_number own_number numbers_same (λ k. from + k) (key_by reach) (bank_by reach) (λ k. key_by reach (from + k)) reach.paths.count banks
+        count_few same_number own_number numbers_same (λ k. from + k) (key_by reach) (bank_at_path_number reach) (λ k. key_by reach (from + k)) reach.paths.count banks
         (λ n. tells.below (from + n)) (λ m n. refl) moment step counts seen so bank inside
 
-    pub range_beyond : (bank : ℕ) → bank ≡ bank_by reach (from + step) → banks ≤ bank → RangeCounted reach from banks moment (step + 1) counts seen
+    pub range_beyond : (bank : ℕ) → bank ≡ bank_at_path_number reach (from + step) → banks ≤ bank → RangeCounted reach from banks moment (step + 1) counts seen
     range_beyond bank is out =
         subst (λ (m : ℕ). RangeCounted reach from banks moment m counts seen) (sym (add-one step))
-        (counts_beyond same_number own_number numbers_same (λ k. from + k) (key_by reach) (bank_by reach) (λ k. key_by reach (from + k)) reach.paths.count banks
+        (counts_beyond same_number own_number numbers_same (λ k. from + k) (key_by reach) (bank_at_path_number reach) (λ k. key_by reach (from + k)) reach.paths.count banks
         (λ n. tells.below (from + n)) (λ m n. refl) moment step counts seen so (subst (λ (b : ℕ). banks ≤ b) is out))
 
-    pub range_turn : (bank key pair : ℕ) (counts1 : List ℕ) (seen1 : ℕ → ℕ) → bank ≡ bank_by reach (from + step) → key ≡ key_by reach (from + step) → pair ≡ bank * reach.paths.count + key → bank < banks
-        → counts1 ≡ counted_at (seen pair == moment) counts bank → seen1 ≡ with_number seen pair moment → RangeCounted reach from banks moment (step + 1) counts1 seen1
+    pub range_turn : (bank key pair : ℕ) (counts1 : List ℕ) (seen1 : ℕ → ℕ) → bank ≡ bank_at_path_number reach (from + step) → key ≡ key_by reach (from + step) → pair ≡ bank * reach.paths.count + key → bank < banks
+        → counts1 ≡ bank_counts_raised (seen pair == moment) counts bank → seen1 ≡ with_number seen pair moment → RangeCounted reach from banks moment (step + 1) counts1 seen1
     range_turn bank key pair counts1 seen1 is keyed paired inside rises marked =
         subst (λ (m : ℕ). RangeCounted reach from banks moment m counts1 seen1) (sym (add-one step)) (by (cases_Bool (seen pair == moment)))
       where
-        within : bank_by reach (from + step) < banks
+        within : bank_at_path_number reach (from + step) < banks
         within = subst (λ (b : ℕ). b < banks) is inside
 
-        pair_is : pair ≡ bank_by reach (from + step) * reach.paths.count + key_by reach (from + step)
-        pair_is = paired ∙ (ap (λ b. b * reach.paths.count + key) is ∙ ap (λ k. bank_by reach (from + step) * reach.paths.count + k) keyed)
+        pair_is : pair ≡ bank_at_path_number reach (from + step) * reach.paths.count + key_by reach (from + step)
+        pair_is = paired ∙ (ap (λ b. b * reach.paths.count + key) is ∙ ap (λ k. bank_at_path_number reach (from + step) * reach.paths.count + k) keyed)
 
         by : ((seen pair == moment) ≡ true) ⊎ ((seen pair == moment) ≡ false) → RangeCounted reach from banks moment (suc step) counts1 seen1
         by (inl e) =
-            counts_same same_number own_number numbers_same (λ k. from + k) (key_by reach) (bank_by reach) (λ k. key_by reach (from + k)) reach.paths.count banks
-            (λ n. tells.below (from + n)) (λ m n. refl) moment step counts seen so within seen1 (not (seen pair == moment)) pair pair_is marked refl counts1 (ap not e) (rises ∙ ap (λ b. counted_at b counts bank) e)
+            counts_same same_number own_number numbers_same (λ k. from + k) (key_by reach) (bank_at_path_number reach) (λ k. key_by reach (from + k)) reach.paths.count banks
+            (λ n. tells.below (from + n)) (λ m n. refl) moment step counts seen so within seen1 (not (seen pair == moment)) pair pair_is marked refl counts1 (ap not e) (rises ∙ ap (λ b. bank_counts_raised b counts bank) e)
         by (inr e) =
-            counts_more same_number own_number numbers_same (λ k. from + k) (key_by reach) (bank_by reach) (λ k. key_by reach (from + k)) reach.paths.count banks
+            counts_more same_number own_number numbers_same (λ k. from + k) (key_by reach) (bank_at_path_number reach) (λ k. key_by reach (from + k)) reach.paths.count banks
             (λ n. tells.below (from + n)) (λ m n. refl) moment step counts seen so within seen1 (not (seen pair == moment)) pair pair_is marked refl counts1 (ap not e)
-            (rises ∙ (ap (λ b. counted_at b counts bank) e ∙ ap (λ b. slice_set counts b (slice_index counts b + 1)) is))
+            (rises ∙ (ap (λ b. bank_counts_raised b counts bank) e ∙ ap (λ b. slice_set counts b (slice_index counts b + 1)) is))
 
 -- no bank is reached with more keys than there are paths
-pub keys_from_most : (reach : Reach) (from many bank : ℕ) → keys_from reach from many bank ≤ many
-keys_from_most reach from many bank = reaching_most same_number own_number numbers_same (λ k. from + k) (key_by reach) (bank_by reach) (λ k. key_by reach (from + k)) reach.paths.count 0 many bank
+pub keys_from_most : (reach : Reach) (from many bank : ℕ) → key_count_from reach from many bank ≤ many
+keys_from_most reach from many bank = reaching_most same_number own_number numbers_same (λ k. from + k) (key_by reach) (bank_at_path_number reach) (λ k. key_by reach (from + k)) reach.paths.count 0 many bank
 
 -- what an access names itself and what its dimensions tell: one of them is 0
 pub record Alone (own told : ℕ) : Type 0 where

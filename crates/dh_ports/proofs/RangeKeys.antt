@@ -16,7 +16,7 @@ use Rattle.dh_meets.specs.Charges.{loop_factors, depends, key_of}
 use Rattle.dh_ports.specs.declared.copies.Reach.{Reach}
 use Rattle.dh_ports.specs.Banks.{bank_at_path, each_below, key_number, path_of_number}
 use Rattle.dh_ports.specs.Claims.{keys_on, source_of}
-use Rattle.dh_ports.specs.Copies.{bank_by, copies_round, key_by, keys_from, same_number, AreCounts, Reaches, TellsPaths}
+use Rattle.dh_ports.specs.Copies.{bank_at_path_number, copies_round, key_by, key_count_from, same_number, AreKeyCounts, IsAccessReach, TellsPaths}
 use Rattle.dh_ports.proofs.EachFacts.{distinct_mapped, each_mapped, each_told, filter_same, map_twice, mapped_filter}
 use Rattle.dh_ports.proofs.PathNumbers.{each_same, no_paths, paths_are, same_keys}
 use Rattle.dh_ports.proofs.ReachFacts.{copies_some, keys_below, levels_are, paths_few, paths_key, paths_spread}
@@ -25,9 +25,9 @@ pub none_or_some : (m : ℕ) → (1 ≤ m) ⊎ (m ≡ 0)
 none_or_some zero = inr refl
 none_or_some (suc m) = inl (omega arith)
 
-module _ (tree : Tree) (scopes : List (Option Scope)) (loops : List Counter) (dims : List Dim) (access : Expr) (writes : Bool) (reach : Reach) (so : Reaches scopes tree loops dims access writes reach) (are : AreScopes (all_bindings_of (program_seen tree)) scopes) where
+module _ (tree : Tree) (scopes : List (Option Scope)) (loops : List Counter) (dims : List Dim) (access : Expr) (writes : Bool) (reach : Reach) (so : IsAccessReach scopes tree loops dims access writes reach) (are : AreScopes (all_bindings_of (program_seen tree)) scopes) where
   module _ (one : 1 ≤ reach.paths.count) where
-    pub bank_told : (number : ℕ) → bank_by reach number ≡ bank_at_path tree dims (source_of loops writes access) (path_of_number (loop_factors loops) number)
+    pub bank_told : (number : ℕ) → bank_at_path_number reach number ≡ bank_at_path tree dims (source_of loops writes access) (path_of_number (loop_factors loops) number)
     bank_told number =
         so.lanes.each (depends (all_bindings_of (program_seen tree)) (source_of loops writes access)) reach.paths.levels.items writes number
         (levels_are (all_bindings_of (program_seen tree)) scopes loops access writes reach.paths so.paths are one)
@@ -43,10 +43,10 @@ module _ (tree : Tree) (scopes : List (Option Scope)) (loops : List Counter) (di
         ∙ same_keys (depends (all_bindings_of (program_seen tree)) (source_of loops writes access)) 0 (loop_factors loops) m n (copies_some (all_bindings_of (program_seen tree)) scopes loops access writes reach.paths so.paths are one))
 
     -- the keys of paths that follow on one another
-    pub keys_by_path : (from many bank : ℕ) → keys_from reach from many bank
+    pub keys_by_path : (from many bank : ℕ) → key_count_from reach from many bank
         ≡ distinct_count same_path (map (key_of (all_bindings_of (program_seen tree)) (source_of loops writes access)) (filter (λ path. bank_at_path tree dims (source_of loops writes access) path == bank) (each_below (λ k. path_of_number (loop_factors loops) (from + k)) many)))
     keys_by_path from many bank =
-        ap (λ l. distinct_count same_number (map (key_by reach) l)) (filter_same (λ n. bank_by reach n == bank) (λ n. bank_at_path tree dims (source_of loops writes access) (path_of_number (loop_factors loops) n) == bank) (each_below (λ k. from + k) many) (λ n. ap (λ b. b == bank) (bank_told n)))
+        ap (λ l. distinct_count same_number (map (key_by reach) l)) (filter_same (λ n. bank_at_path_number reach n == bank) (λ n. bank_at_path tree dims (source_of loops writes access) (path_of_number (loop_factors loops) n) == bank) (each_below (λ k. from + k) many) (λ n. ap (λ b. b == bank) (bank_told n)))
         ∙ (distinct_mapped same_number same_path (key_by reach) (λ n. key_of (all_bindings_of (program_seen tree)) (source_of loops writes access) (path_of_number (loop_factors loops) n))
         (filter (λ n. bank_at_path tree dims (source_of loops writes access) (path_of_number (loop_factors loops) n) == bank) (each_below (λ k. from + k) many)) keys_told
         ∙ ap (distinct_count same_path) (sym (
@@ -67,21 +67,21 @@ module _ (tree : Tree) (scopes : List (Option Scope)) (loops : List Counter) (di
     }
 
   -- the keys of all paths
-  pub keys_of_all : (bank : ℕ) → keys_from reach 0 reach.paths.count bank ≡ keys_on (program_seen tree) dims (source_of loops writes access) bank
+  pub keys_of_all : (bank : ℕ) → key_count_from reach 0 reach.paths.count bank ≡ keys_on (program_seen tree) dims (source_of loops writes access) bank
   keys_of_all bank = by (none_or_some reach.paths.count)
     where
       zero_more : (k : ℕ) → 0 + k ≡ k
       zero_more k = omega arith
 
-      by : (1 ≤ reach.paths.count) ⊎ (reach.paths.count ≡ 0) → keys_from reach 0 reach.paths.count bank ≡ keys_on (program_seen tree) dims (source_of loops writes access) bank
+      by : (1 ≤ reach.paths.count) ⊎ (reach.paths.count ≡ 0) → key_count_from reach 0 reach.paths.count bank ≡ keys_on (program_seen tree) dims (source_of loops writes access) bank
       by (inl one) =
           keys_by_path one 0 reach.paths.count bank
           ∙ ap (λ l. distinct_count same_path (map (key_of (all_bindings_of (program_seen tree)) (source_of loops writes access)) (filter (λ path. bank_at_path tree dims (source_of loops writes access) path == bank) l)))
           (each_same (λ k. path_of_number (loop_factors loops) (0 + k)) (path_of_number (loop_factors loops)) reach.paths.count (λ k i. ap (path_of_number (loop_factors loops)) (zero_more k))
           ∙ (ap (each_below (path_of_number (loop_factors loops))) so.paths.count ∙ sym (paths_are (loop_factors loops) (subst (λ (n : ℕ). 1 ≤ n) so.paths.count one))))
       by (inr none) =
-          ap (λ n. keys_from reach 0 n bank) none
+          ap (λ n. key_count_from reach 0 n bank) none
           ∙ sym (ap (λ l. distinct_count same_path (map (key_of (all_bindings_of (program_seen tree)) (source_of loops writes access)) (filter (λ path. bank_at_path tree dims (source_of loops writes access) path == bank) l))) (no_paths (loop_factors loops) (sym so.paths.count ∙ none)))
 
-  pub counts_are : (banks : ℕ) (counts : List ℕ) → AreCounts reach 0 reach.paths.count banks counts → counts ≡ each_below (keys_on (program_seen tree) dims (source_of loops writes access)) banks
+  pub counts_are : (banks : ℕ) (counts : List ℕ) → AreKeyCounts reach 0 reach.paths.count banks counts → counts ≡ each_below (keys_on (program_seen tree) dims (source_of loops writes access)) banks
   counts_are banks counts h = each_told (keys_on (program_seen tree) dims (source_of loops writes access)) banks counts h.long (λ bank inside. h.each bank inside ∙ keys_of_all bank)

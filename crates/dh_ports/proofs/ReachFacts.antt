@@ -22,7 +22,7 @@ use Rattle.dh_ports.specs.Banks.{key_number, path_of_number}
 use Rattle.dh_shape.specs.Classified.{loops_in}
 use Rattle.dh_events.specs.Accesses.{element_in}
 use Rattle.dh_ports.specs.Claims.{source_of}
-use Rattle.dh_ports.specs.Copies.{all_lane_banks, bank_of_lanes, greatest_key, key_of_levels, AreLanes, AreLevels, ArePaths, HasFewBanks, HasFewKeys, IsReach, IsSpread, copies_round}
+use Rattle.dh_ports.specs.Copies.{all_lane_banks, bank_of_lanes, greatest_key, key_of_levels, AreIndexLanes, AreLevels, AreAccessPaths, HasFewBanks, HasFewKeys, IsReach, IsSpreadLevel, copies_round}
 use Rattle.dh_events.specs.Scopes.{AreScopes}
 use Rattle.dh_ports.proofs.BankTurns.{no_bank}
 use Rattle.dh_ports.proofs.CopyTurns.{bank_most}
@@ -33,7 +33,7 @@ no_lanes : HasFewBanks []
 no_lanes = record { few = omega arith; banks = tt }
 
 module _ (tree : Tree) (loops : List Counter) (dims : List Dim) (access : Expr) where
-  pub reach_lanes : (lanes : List Lane) (of : Ref) (es : List Expr) → form_seen access.form ≡ accessed of (terms (map term_seen es)) → AreLanes tree loops dims es lanes → IsReach tree loops dims access lanes 0
+  pub reach_lanes : (lanes : List Lane) (of : Ref) (es : List Expr) → form_seen access.form ≡ accessed of (terms (map term_seen es)) → AreIndexLanes tree loops dims es lanes → IsReach tree loops dims access lanes 0
   reach_lanes lanes of es e are = record {
     few = are.few;
     alone = inl refl;
@@ -80,14 +80,14 @@ module _ (tree : Tree) (loops : List Counter) (dims : List Dim) (access : Expr) 
       by (inl z) h = first own _ _ z h r.few.few
       by (inr l) h = subst (λ (x : List Lane). own + bank_of_lanes levels x number < 2 ^ 64) (sym l) (other own e)
 
-module _ (bs : List Binding) (scopes : List (Option Scope)) (loops : List Counter) (access : Expr) (writes : Bool) (paths : Paths) (so : ArePaths scopes loops access writes paths) (are : AreScopes bs scopes) (one : 1 ≤ paths.count) where
+module _ (bs : List Binding) (scopes : List (Option Scope)) (loops : List Counter) (access : Expr) (writes : Bool) (paths : Paths) (so : AreAccessPaths scopes loops access writes paths) (are : AreScopes bs scopes) (one : 1 ≤ paths.count) where
   pub copies_some : 1 ≤ copies_round loops
   copies_some = subst (λ (n : ℕ). 1 ≤ n) so.count one
 
   pub levels_are : AreLevels (depends bs (source_of loops writes access)) 0 (loop_factors loops) paths.levels.items
   levels_are = so.levels bs are copies_some
 
-  pub paths_spread : AllByRecursion IsSpread paths.levels.items
+  pub paths_spread : AllByRecursion IsSpreadLevel paths.levels.items
   paths_spread = levels_spread (depends bs (source_of loops writes access)) 0 (loop_factors loops) paths.levels.items copies_some levels_are
 
   pub paths_few : copies_round loops ≤ 256 → HasFewKeys paths.levels.items

@@ -11,7 +11,7 @@ use Rattle.dh_meets.specs.Charges.{reaches, paths_of}
 use Rattle.dh_meets.specs.MayMeet.{meets_in}
 use Rattle.dh_meets.specs.Ports.{ReadsAfterWrite}
 use Rattle.dh_meets.specs.SourceEvents.{SourceAccess, accesses_in, trace}
-use Rattle.dh_ports.specs.WritesFound.{can_reach, write_of, write_charge, FindsWrite}
+use Rattle.dh_ports.specs.WritesFound.{access_can_reach, write_of, write_charge, FindsWrite}
 use Rattle.dh_ports.proofs.Wholes.{whole, access_in}
 use Rattle.dh_ports.proofs.MeetingFacts.{found_meeting, meeting_found, or_first, or_second}
 
@@ -42,19 +42,19 @@ module _ (p : Program) where
     pub is : o ≡ Some earlier
     pub writes : earlier.writes ≡ true
     pub phase : in_one_phase p number read ≡ true
-    pub reached : can_reach p earlier memory bank ≡ true
+    pub reached : access_can_reach p earlier memory bank ≡ true
 
   charging : (memory bank read number : ℕ) (o : Option SourceAccess) → 1 ≤ write_of p memory bank read number o → Charging memory bank read number o
   charging memory bank read number None e = absurd (none e)
     where
       none : 1 ≤ 0 → ⊥
       none e = omega (arith, e)
-  charging memory bank read number (Some x) e = from_test x.writes (in_one_phase p number read) (can_reach p x memory bank) refl refl refl e
+  charging memory bank read number (Some x) e = from_test x.writes (in_one_phase p number read) (access_can_reach p x memory bank) refl refl refl e
     where
       none : 1 ≤ 0 → ⊥
       none e = omega (arith, e)
 
-      from_test : (a b c : Bool) → x.writes ≡ a → in_one_phase p number read ≡ b → can_reach p x memory bank ≡ c → 1 ≤ (if (a && b) && c then 1 else 0) → Charging memory bank read number (Some x)
+      from_test : (a b c : Bool) → x.writes ≡ a → in_one_phase p number read ≡ b → access_can_reach p x memory bank ≡ c → 1 ≤ (if (a && b) && c then 1 else 0) → Charging memory bank read number (Some x)
       from_test true true true f g h e = record { earlier = x; is = refl; writes = f; phase = g; reached = h }
       from_test true true false f g h e = absurd (none e)
       from_test true false c f g h e = absurd (none e)
@@ -84,7 +84,7 @@ module _ (p : Program) where
       }
     where
       free : (later : SourceAccess) → slice_get (accesses_in (trace p)) f.read ≡ Some later → later.writes ≡ false → write_charge p f.memory f.bank f.read f.read ≡ 0
-      free later e g = ap (λ o. write_of p f.memory f.bank f.read f.read o) e ∙ ap (λ b. if (b && in_one_phase p f.read f.read) && can_reach p later f.memory f.bank then 1 else 0) g
+      free later e g = ap (λ o. write_of p f.memory f.bank f.read f.read o) e ∙ ap (λ b. if (b && in_one_phase p f.read f.read) && access_can_reach p later f.memory f.bank then 1 else 0) g
 
   pub is_found : (place : Place) → ReadsAfterWrite p place → FindsWrite p place
   is_found place r = record {
@@ -110,5 +110,5 @@ module _ (p : Program) where
       charge_is : write_charge p r.memory r.bank r.read r.write ≡ 1
       charge_is =
           ap (λ o. write_of p r.memory r.bank r.read r.write o) r.writes
-          ∙ (ap (λ b. if (b && in_one_phase p r.write r.read) && can_reach p r.earlier r.memory r.bank then 1 else 0) r.write_is
-          ∙ (ap (λ b. if b && can_reach p r.earlier r.memory r.bank then 1 else 0) r.phase ∙ ap (λ b. if b then 1 else 0) (found_reach p r.earlier r.memory r.bank (paths_of r.earlier) r.written.0 r.written.1.0 r.written.1.1.0 r.written.1.1.1)))
+          ∙ (ap (λ b. if (b && in_one_phase p r.write r.read) && access_can_reach p r.earlier r.memory r.bank then 1 else 0) r.write_is
+          ∙ (ap (λ b. if b && access_can_reach p r.earlier r.memory r.bank then 1 else 0) r.phase ∙ ap (λ b. if b then 1 else 0) (found_reach p r.earlier r.memory r.bank (paths_of r.earlier) r.written.0 r.written.1.0 r.written.1.1.0 r.written.1.1.1)))

@@ -21,11 +21,11 @@ use Rattle.dh_ports.specs.declared.levels.Step.{Step}
 use Rattle.dh_ports.specs.declared.moves.Move.{Move}
 use Rattle.dh_ports.specs.declared.moves.Move.TheVariants as move
 use Rattle.dh_ports.specs.declared.moves.Run.{Run}
-use Rattle.dh_ports.specs.Levels.{advance, left_before, lefts_of, level_at, start}
+use Rattle.dh_ports.specs.Levels.{advance, left_before, left_before_each, level_at, start}
 use Rattle.dh_ports.specs.Orders.{order_of, order_step, slot_in, step_in}
 use Rattle.dh_ports.specs.Passing.{all_from, beyond_from, first_from, late_from, KeepsTo}
-use Rattle.dh_ports.specs.Runs.{at_slot, claims_so, goes_on, moves_in, moves_of_run, one_claim, row_of, row_to, slot_of}
-use Rattle.dh_ports.specs.Scanned.{all_late, bank_key, first_beyond, is_beyond, is_late, late_at, place_in, spending_step, take_of, AreOrdering, ClaimOrdersAt, IsMoveOf, IsNoted, IsNotedFor, IsOrdering, KeepsLate, StepsAt}
+use Rattle.dh_ports.specs.Runs.{at_slot, claims_so, claim_extends_run, moves_in, moves_of_run, one_claim, moves_in_row, row_to, claimed_slot}
+use Rattle.dh_ports.specs.Scanned.{all_late, bank_key, first_beyond, step_exceeds, is_late, late_at, move_place, spending_step, take_of, AreOrdering, ClaimOrdersAt, IsMoveOf, IsNotedClaim, IsNotedFor, IsOrdering, KeepsLate, StepsAt}
 use Rattle.dh_ports.proofs.LateWalk.{order_is, slot_found, slot_none}
 use Rattle.dh_ports.proofs.LeftTurns.{lefts_same}
 use Rattle.dh_ports.proofs.ScanTurns.{noted_still}
@@ -35,55 +35,55 @@ absurd e = elim e [ ]
 
 -- Rows.
 
-pub row_step : (m : Move) (slot end : ℕ) → slot < end → row_of m slot (end - slot) ≡ at_slot m slot ∷ row_of m (slot + 1) (end - (slot + 1))
+pub row_step : (m : Move) (slot end : ℕ) → slot < end → moves_in_row m slot (end - slot) ≡ at_slot m slot ∷ moves_in_row m (slot + 1) (end - (slot + 1))
 row_step m slot end h =
     let more : end - slot ≡ suc (end - (slot + 1)) = omega (arith, h) in
     let next : suc slot ≡ slot + 1 = omega arith in
-    ap (row_of m slot) more ∙ ap (λ k. at_slot m slot ∷ row_of m k (end - (slot + 1))) next
+    ap (moves_in_row m slot) more ∙ ap (λ k. at_slot m slot ∷ moves_in_row m k (end - (slot + 1))) next
 
 -- a row has no bank from its end on
-pub row_past : (m : Move) (slot end : ℕ) → end ≤ slot → ◌≡◌ {A = List Move} [] (row_of m slot (end - slot))
-row_past m slot end h = let past : 0 ≡ end - slot = omega (arith, h) in ap (row_of m slot) past
+pub row_past : (m : Move) (slot end : ℕ) → end ≤ slot → ◌≡◌ {A = List Move} [] (moves_in_row m slot (end - slot))
+row_past m slot end h = let past : 0 ≡ end - slot = omega (arith, h) in ap (moves_in_row m slot) past
 
-pub row_head : (P : Move → Type 0) (m : Move) (slot end : ℕ) → slot < end → AllByRecursion P (row_of m slot (end - slot)) → P (at_slot m slot)
+pub row_head : (P : Move → Type 0) (m : Move) (slot end : ℕ) → slot < end → AllByRecursion P (moves_in_row m slot (end - slot)) → P (at_slot m slot)
 row_head P m slot end h all = (subst (λ (l : List Move). AllByRecursion P l) (row_step m slot end h) all).0
 
-pub row_rest : (P : Move → Type 0) (m : Move) (slot end : ℕ) → slot < end → AllByRecursion P (row_of m slot (end - slot)) → AllByRecursion P (row_of m (slot + 1) (end - (slot + 1)))
+pub row_rest : (P : Move → Type 0) (m : Move) (slot end : ℕ) → slot < end → AllByRecursion P (moves_in_row m slot (end - slot)) → AllByRecursion P (moves_in_row m (slot + 1) (end - (slot + 1)))
 row_rest P m slot end h all = (subst (λ (l : List Move). AllByRecursion P l) (row_step m slot end h) all).1
 
 -- one bank more
-pub more_row : (m : Move) (slot many : ℕ) → row_of m slot (suc many) ≡ row_of m slot many ++ at_slot m (slot + many) ∷ []
+pub more_row : (m : Move) (slot many : ℕ) → moves_in_row m slot (suc many) ≡ moves_in_row m slot many ++ at_slot m (slot + many) ∷ []
 more_row m slot zero = ap (λ n. at_slot m n ∷ []) (none slot)
   where
     none : (n : ℕ) → n ≡ n + 0
     none n = omega arith
-more_row m slot (suc many) = ap (λ l. at_slot m slot ∷ l) (more_row m (suc slot) many ∙ ap (λ n. row_of m (suc slot) many ++ at_slot m n ∷ []) (shift slot many))
+more_row m slot (suc many) = ap (λ l. at_slot m slot ∷ l) (more_row m (suc slot) many ∙ ap (λ n. moves_in_row m (suc slot) many ++ at_slot m n ∷ []) (shift slot many))
   where
     shift : (a b : ℕ) → suc a + b ≡ a + suc b
     shift a b = omega arith
 
 -- the claim of one bank, and a move of no bank, as runs
 pub claim_row : (event slot keys : ℕ) → row_to (move.Claim event slot keys) (slot + 1) ≡ one_claim event slot keys
-claim_row event slot keys = let one : slot + 1 - slot ≡ suc zero = omega arith in ap (row_of (move.Claim event slot keys) slot) one
+claim_row event slot keys = let one : slot + 1 - slot ≡ suc zero = omega arith in ap (moves_in_row (move.Claim event slot keys) slot) one
 
 one_left : 1 - 0 ≡ suc zero
 one_left = omega arith
 
 pub begin_row : row_to move.Begin 1 ≡ move.Begin ∷ []
-begin_row = ap (row_of move.Begin 0) one_left
+begin_row = ap (moves_in_row move.Begin 0) one_left
 
 pub next_row : row_to move.Next 1 ≡ move.Next ∷ []
-next_row = ap (row_of move.Next 0) one_left
+next_row = ap (moves_in_row move.Next 0) one_left
 
 pub end_row : row_to move.End 1 ≡ move.End ∷ []
-end_row = ap (row_of move.End 0) one_left
+end_row = ap (moves_in_row move.End 0) one_left
 
 -- the claim of a bank that goes on with a run
 both_true : (a b : Bool) → (a && b) ≡ true → (a ≡ true) × (b ≡ true)
 both_true true b e = (refl, e)
 both_true false b e = absurd (cc)
 
-pub longer : (r : Run) (event slot keys : ℕ) → goes_on r event slot keys ≡ true → row_to r.first (slot + 1) ≡ moves_of_run r ++ one_claim event slot keys
+pub longer : (r : Run) (event slot keys : ℕ) → claim_extends_run r event slot keys ≡ true → row_to r.first (slot + 1) ≡ moves_of_run r ++ one_claim event slot keys
 longer r event slot keys h = of_first r.first r.end h
   where
     never : ◌≡◌ {A = Bool} false true → ⊥
@@ -100,11 +100,11 @@ longer r event slot keys h = of_first r.first r.end h
 
     of_claim : (other from each end : ℕ) → other ≡ event → each ≡ keys → from < end → end ≡ slot → row_to (move.Claim other from each) (slot + 1) ≡ row_to (move.Claim other from each) end ++ one_claim event slot keys
     of_claim other from each end a b less is =
-        ap (row_of (move.Claim other from each) from) (many from end slot less is)
+        ap (moves_in_row (move.Claim other from each) from) (many from end slot less is)
         ∙ (more_row (move.Claim other from each) from (end - from)
         ∙ ap (λ m. row_to (move.Claim other from each) end ++ m ∷ []) (ap (λ n. move.Claim other n each) (last from end slot less is) ∙ (ap (λ n. move.Claim n slot each) a ∙ ap (λ n. move.Claim event slot n) b)))
 
-    of_first : (m : Move) (end : ℕ) → (claims_so m event keys && (nat_lt (slot_of m) end && (end == slot))) ≡ true → row_to m (slot + 1) ≡ row_to m end ++ one_claim event slot keys
+    of_first : (m : Move) (end : ℕ) → (claims_so m event keys && (nat_lt (claimed_slot m) end && (end == slot))) ≡ true → row_to m (slot + 1) ≡ row_to m end ++ one_claim event slot keys
     of_first (move.Claim other from each) end e =
         let whole = both_true ((other == event) && (each == keys)) (nat_lt from end && (end == slot)) e in
         let same = both_true (other == event) (each == keys) whole.0 in
@@ -163,37 +163,37 @@ run_rest P rs i d inside h = all_rest P (moves_of_run (get_or rs i d)) (moves_in
 
 module _ (whole : List PortEvent) (shared : List Bool) where
   -- a move that takes no more than is left
-  spent_pass : (old new : Levels) (m : Move) → is_beyond (spending_step shared m) (left_before (spending_step shared m) (λ k. level_at old k)) ≡ false → ((k : ℕ) → level_at new k ≡ advance k (spending_step shared m) (level_at old k)) → (rest : List Move)
+  spent_pass : (old new : Levels) (m : Move) → step_exceeds (spending_step shared m) (left_before (spending_step shared m) (λ k. level_at old k)) ≡ false → ((k : ℕ) → level_at new k ≡ advance k (spending_step shared m) (level_at old k)) → (rest : List Move)
       → beyond_from whole shared new rest ≡ beyond_from whole shared old (m ∷ rest)
   spent_pass old new m within stepped rest =
       ap (λ ls. first_beyond whole rest (map (spending_step shared) rest) ls) (lefts_same (λ k. level_at new k) (λ k. advance k (spending_step shared m) (level_at old k)) stepped (map (spending_step shared) rest))
-      ∙ sym (ap (λ b. if b then place_in whole m else first_beyond whole rest (map (spending_step shared) rest) (lefts_of (λ k. advance k (spending_step shared m) (level_at old k)) (map (spending_step shared) rest))) within)
+      ∙ sym (ap (λ b. if b then move_place whole m else first_beyond whole rest (map (spending_step shared) rest) (left_before_each (λ k. advance k (spending_step shared m) (level_at old k)) (map (spending_step shared) rest))) within)
 
   -- and one that takes more
-  spent_stop : (old : Levels) (m : Move) → is_beyond (spending_step shared m) (left_before (spending_step shared m) (λ k. level_at old k)) ≡ true → (rest : List Move) → place_in whole m ≡ beyond_from whole shared old (m ∷ rest)
+  spent_stop : (old : Levels) (m : Move) → step_exceeds (spending_step shared m) (left_before (spending_step shared m) (λ k. level_at old k)) ≡ true → (rest : List Move) → move_place whole m ≡ beyond_from whole shared old (m ∷ rest)
   spent_stop old m beyond rest =
-      sym (ap (λ b. if b then place_in whole m else first_beyond whole rest (map (spending_step shared) rest) (lefts_of (λ k. advance k (spending_step shared m) (level_at old k)) (map (spending_step shared) rest))) beyond)
+      sym (ap (λ b. if b then move_place whole m else first_beyond whole rest (map (spending_step shared) rest) (left_before_each (λ k. advance k (spending_step shared m) (level_at old k)) (map (spending_step shared) rest))) beyond)
 
-  module _ (first m : Move) (slot end : ℕ) (first_levels old : Levels) (s : Step) (left : ℕ) (over : Bool) (inside : slot < end) (move_is : m ≡ at_slot first slot) (step_is : s ≡ spending_step shared m) (left_is : left ≡ left_before s (λ k. level_at old k)) (over_is : over ≡ is_beyond s left)
-      (ms : List Move) (so : (rest : List Move) → beyond_from whole shared old (row_of first slot (end - slot) ++ rest) ≡ beyond_from whole shared first_levels (ms ++ rest)) where
-    spent_test : (b : Bool) → over ≡ b → is_beyond (spending_step shared m) (left_before (spending_step shared m) (λ k. level_at old k)) ≡ b
-    spent_test b e = sym (over_is ∙ (ap (is_beyond s) left_is ∙ ap (λ x. is_beyond x (left_before x (λ k. level_at old k))) step_is)) ∙ e
+  module _ (first m : Move) (slot end : ℕ) (first_levels old : Levels) (s : Step) (left : ℕ) (over : Bool) (inside : slot < end) (move_is : m ≡ at_slot first slot) (step_is : s ≡ spending_step shared m) (left_is : left ≡ left_before s (λ k. level_at old k)) (over_is : over ≡ step_exceeds s left)
+      (ms : List Move) (so : (rest : List Move) → beyond_from whole shared old (moves_in_row first slot (end - slot) ++ rest) ≡ beyond_from whole shared first_levels (ms ++ rest)) where
+    spent_test : (b : Bool) → over ≡ b → step_exceeds (spending_step shared m) (left_before (spending_step shared m) (λ k. level_at old k)) ≡ b
+    spent_test b e = sym (over_is ∙ (ap (step_exceeds s) left_is ∙ ap (λ x. step_exceeds x (left_before x (λ k. level_at old k))) step_is)) ∙ e
 
     -- the rest of the row, behind its first move
-    spent_row : (rest : List Move) → beyond_from whole shared old (m ∷ (row_of first (slot + 1) (end - (slot + 1)) ++ rest)) ≡ beyond_from whole shared first_levels (ms ++ rest)
+    spent_row : (rest : List Move) → beyond_from whole shared old (m ∷ (moves_in_row first (slot + 1) (end - (slot + 1)) ++ rest)) ≡ beyond_from whole shared first_levels (ms ++ rest)
     spent_row rest =
-        ap (λ x. beyond_from whole shared old (x ∷ (row_of first (slot + 1) (end - (slot + 1)) ++ rest))) move_is
+        ap (λ x. beyond_from whole shared old (x ∷ (moves_in_row first (slot + 1) (end - (slot + 1)) ++ rest))) move_is
         ∙ (ap (λ l. beyond_from whole shared old (l ++ rest)) (sym (row_step first slot end inside)) ∙ so rest)
 
-    pub spent_turn : (new : Levels) → over ≡ false → ((k : ℕ) → level_at new k ≡ advance k s (level_at old k)) → (rest : List Move) → beyond_from whole shared new (row_of first (slot + 1) (end - (slot + 1)) ++ rest) ≡ beyond_from whole shared first_levels (ms ++ rest)
+    pub spent_turn : (new : Levels) → over ≡ false → ((k : ℕ) → level_at new k ≡ advance k s (level_at old k)) → (rest : List Move) → beyond_from whole shared new (moves_in_row first (slot + 1) (end - (slot + 1)) ++ rest) ≡ beyond_from whole shared first_levels (ms ++ rest)
     spent_turn new within stepped rest =
-        spent_pass old new m (spent_test false within) (λ k. stepped k ∙ ap (λ x. advance k x (level_at old k)) step_is) (row_of first (slot + 1) (end - (slot + 1)) ++ rest)
+        spent_pass old new m (spent_test false within) (λ k. stepped k ∙ ap (λ x. advance k x (level_at old k)) step_is) (moves_in_row first (slot + 1) (end - (slot + 1)) ++ rest)
         ∙ spent_row rest
 
-    pub spent_here : (place : Option Place) → over ≡ true → place ≡ place_in whole m → (rest : List Move) → place ≡ beyond_from whole shared first_levels (ms ++ rest)
-    spent_here place beyond place_is rest = place_is ∙ (spent_stop old m (spent_test true beyond) (row_of first (slot + 1) (end - (slot + 1)) ++ rest) ∙ spent_row rest)
+    pub spent_here : (place : Option Place) → over ≡ true → place ≡ move_place whole m → (rest : List Move) → place ≡ beyond_from whole shared first_levels (ms ++ rest)
+    spent_here place beyond place_is rest = place_is ∙ (spent_stop old m (spent_test true beyond) (moves_in_row first (slot + 1) (end - (slot + 1)) ++ rest) ∙ spent_row rest)
 
-  pub spent_row_done : (first : Move) (slot end : ℕ) (first_levels old : Levels) (ms : List Move) → end ≤ slot → ((rest : List Move) → beyond_from whole shared old (row_of first slot (end - slot) ++ rest) ≡ beyond_from whole shared first_levels (ms ++ rest))
+  pub spent_row_done : (first : Move) (slot end : ℕ) (first_levels old : Levels) (ms : List Move) → end ≤ slot → ((rest : List Move) → beyond_from whole shared old (moves_in_row first slot (end - slot) ++ rest) ≡ beyond_from whole shared first_levels (ms ++ rest))
       → (rest : List Move) → beyond_from whole shared old rest ≡ beyond_from whole shared first_levels (ms ++ rest)
   spent_row_done first slot end first_levels old ms past so rest = ap (λ l. beyond_from whole shared old (l ++ rest)) (row_past first slot end past) ∙ so rest
 
@@ -274,22 +274,22 @@ keeps_late known events ms before after starts distinct within written ones kept
 module _ (known : List Key) (events : List Event) where
   -- what stands behind a move
   abbrev rest_late : (old : Levels) (m : Move) (rest : List Move) → List Breach
-  rest_late old m rest = all_late (all_seen events) rest (map (order_step known events) rest) (lefts_of (λ k. advance k (order_step known events m) (level_at old k)) (map (order_step known events) rest))
+  rest_late old m rest = all_late (all_seen events) rest (map (order_step known events) rest) (left_before_each (λ k. advance k (order_step known events m) (level_at old k)) (map (order_step known events) rest))
 
   abbrev tested : (old : Levels) (m : Move) (rest : List Move) → Bool → List Breach
-  tested old m rest b = if b then late_at (place_in (all_seen events) m) ++ rest_late old m rest else rest_late old m rest
+  tested old m rest b = if b then late_at (move_place (all_seen events) m) ++ rest_late old m rest else rest_late old m rest
 
   behind_same : (old new : Levels) (m : Move) → ((k : ℕ) → level_at new k ≡ advance k (order_step known events m) (level_at old k)) → (rest : List Move) → late_from known events new rest ≡ rest_late old m rest
   behind_same old new m stepped rest =
       ap (λ ls. all_late (all_seen events) rest (map (order_step known events) rest) ls) (lefts_same (λ k. level_at new k) (λ k. advance k (order_step known events m) (level_at old k)) stepped (map (order_step known events) rest))
 
   -- a read that finds nothing left is kept, and another move keeps what was kept
-  late_pass : (old new : Levels) (m : Move) (before after : Option Breach) → is_late (order_step known events m) (left_before (order_step known events m) (λ k. level_at old k)) ≡ true → after ≡ least_of before (late_at (place_in (all_seen events) m))
+  late_pass : (old new : Levels) (m : Move) (before after : Option Breach) → is_late (order_step known events m) (left_before (order_step known events m) (λ k. level_at old k)) ≡ true → after ≡ least_of before (late_at (move_place (all_seen events) m))
       → ((k : ℕ) → level_at new k ≡ advance k (order_step known events m) (level_at old k)) → (rest : List Move) → least_of after (late_from known events new rest) ≡ least_of before (late_from known events old (m ∷ rest))
   late_pass old new m before after late kept stepped rest =
       ap (λ b. least_of b (late_from known events new rest)) kept
-      ∙ (sym (least_append before (late_at (place_in (all_seen events) m)) (late_from known events new rest))
-      ∙ (ap (λ l. least_of before (late_at (place_in (all_seen events) m) ++ l)) (behind_same old new m stepped rest)
+      ∙ (sym (least_append before (late_at (move_place (all_seen events) m)) (late_from known events new rest))
+      ∙ (ap (λ l. least_of before (late_at (move_place (all_seen events) m) ++ l)) (behind_same old new m stepped rest)
       ∙ sym (ap (λ b. least_of before (tested old m rest b)) late)))
 
   other_pass : (old new : Levels) (m : Move) (before after : Option Breach) → is_late (order_step known events m) (left_before (order_step known events m) (λ k. level_at old k)) ≡ false → after ≡ before
@@ -300,28 +300,28 @@ module _ (known : List Key) (events : List Event) where
       ∙ sym (ap (λ b. least_of before (tested old m rest b)) late))
 
   module _ (distinct : KeysAreDistinct known) (first m : Move) (slot end : ℕ) (first_levels old new : Levels) (s : Step) (left : ℕ) (late : Bool) (inside : slot < end) (move_is : m ≡ at_slot first slot) (ordering : IsOrdering known events m s) (left_is : left ≡ left_before s (λ k. level_at old k)) (late_is : late ≡ is_late s left)
-      (stepped : (k : ℕ) → level_at new k ≡ advance k s (level_at old k)) (ms : List Move) (first_kept kept : Option Breach) (so : (rest : List Move) → least_of kept (late_from known events old (row_of first slot (end - slot) ++ rest)) ≡ least_of first_kept (late_from known events first_levels (ms ++ rest))) where
+      (stepped : (k : ℕ) → level_at new k ≡ advance k s (level_at old k)) (ms : List Move) (first_kept kept : Option Breach) (so : (rest : List Move) → least_of kept (late_from known events old (moves_in_row first slot (end - slot) ++ rest)) ≡ least_of first_kept (late_from known events first_levels (ms ++ rest))) where
     late_test : (b : Bool) → late ≡ b → is_late (order_step known events m) (left_before (order_step known events m) (λ k. level_at old k)) ≡ b
     late_test b e = sym (late_is ∙ (ap (is_late s) left_is ∙ ap (λ x. is_late x (left_before x (λ k. level_at old k))) (order_is known distinct events m s ordering))) ∙ e
 
     steps_on : (k : ℕ) → level_at new k ≡ advance k (order_step known events m) (level_at old k)
     steps_on k = stepped k ∙ ap (λ x. advance k x (level_at old k)) (order_is known distinct events m s ordering)
 
-    late_row : (rest : List Move) → least_of kept (late_from known events old (m ∷ (row_of first (slot + 1) (end - (slot + 1)) ++ rest))) ≡ least_of first_kept (late_from known events first_levels (ms ++ rest))
+    late_row : (rest : List Move) → least_of kept (late_from known events old (m ∷ (moves_in_row first (slot + 1) (end - (slot + 1)) ++ rest))) ≡ least_of first_kept (late_from known events first_levels (ms ++ rest))
     late_row rest =
-        ap (λ x. least_of kept (late_from known events old (x ∷ (row_of first (slot + 1) (end - (slot + 1)) ++ rest)))) move_is
+        ap (λ x. least_of kept (late_from known events old (x ∷ (moves_in_row first (slot + 1) (end - (slot + 1)) ++ rest)))) move_is
         ∙ (ap (λ l. least_of kept (late_from known events old (l ++ rest))) (sym (row_step first slot end inside)) ∙ so rest)
 
-    pub late_turn : (after : Option Breach) (place : Option Place) → late ≡ true → place ≡ place_in (all_seen events) m → after ≡ least_of kept (late_at place)
-        → (rest : List Move) → least_of after (late_from known events new (row_of first (slot + 1) (end - (slot + 1)) ++ rest)) ≡ least_of first_kept (late_from known events first_levels (ms ++ rest))
+    pub late_turn : (after : Option Breach) (place : Option Place) → late ≡ true → place ≡ move_place (all_seen events) m → after ≡ least_of kept (late_at place)
+        → (rest : List Move) → least_of after (late_from known events new (moves_in_row first (slot + 1) (end - (slot + 1)) ++ rest)) ≡ least_of first_kept (late_from known events first_levels (ms ++ rest))
     late_turn after place is_so place_is kept_is rest =
-        late_pass old new m kept after (late_test true is_so) (kept_is ∙ ap (λ q. least_of kept (late_at q)) place_is) steps_on (row_of first (slot + 1) (end - (slot + 1)) ++ rest)
+        late_pass old new m kept after (late_test true is_so) (kept_is ∙ ap (λ q. least_of kept (late_at q)) place_is) steps_on (moves_in_row first (slot + 1) (end - (slot + 1)) ++ rest)
         ∙ late_row rest
 
-    pub other_turn : (after : Option Breach) → late ≡ false → after ≡ kept → (rest : List Move) → least_of after (late_from known events new (row_of first (slot + 1) (end - (slot + 1)) ++ rest)) ≡ least_of first_kept (late_from known events first_levels (ms ++ rest))
-    other_turn after is_so kept_is rest = other_pass old new m kept after (late_test false is_so) kept_is steps_on (row_of first (slot + 1) (end - (slot + 1)) ++ rest) ∙ late_row rest
+    pub other_turn : (after : Option Breach) → late ≡ false → after ≡ kept → (rest : List Move) → least_of after (late_from known events new (moves_in_row first (slot + 1) (end - (slot + 1)) ++ rest)) ≡ least_of first_kept (late_from known events first_levels (ms ++ rest))
+    other_turn after is_so kept_is rest = other_pass old new m kept after (late_test false is_so) kept_is steps_on (moves_in_row first (slot + 1) (end - (slot + 1)) ++ rest) ∙ late_row rest
 
-  pub late_row_done : (first : Move) (slot end : ℕ) (first_levels old : Levels) (ms : List Move) (first_kept kept : Option Breach) → end ≤ slot → ((rest : List Move) → least_of kept (late_from known events old (row_of first slot (end - slot) ++ rest)) ≡ least_of first_kept (late_from known events first_levels (ms ++ rest)))
+  pub late_row_done : (first : Move) (slot end : ℕ) (first_levels old : Levels) (ms : List Move) (first_kept kept : Option Breach) → end ≤ slot → ((rest : List Move) → least_of kept (late_from known events old (moves_in_row first slot (end - slot) ++ rest)) ≡ least_of first_kept (late_from known events first_levels (ms ++ rest)))
       → (rest : List Move) → least_of kept (late_from known events old rest) ≡ least_of first_kept (late_from known events first_levels (ms ++ rest))
   late_row_done first slot end first_levels old ms first_kept kept past so rest = ap (λ l. least_of kept (late_from known events old (l ++ rest))) (row_past first slot end past) ∙ so rest
 
@@ -341,7 +341,7 @@ module _ (known : List Key) (events : List Event) where
 -- Keys that are written. Whatever keys there come to be: where the rest is noted, all is.
 
 abbrev pub NotesAll : List Key → List Event → (rest whole : List Move) → Type 0
-NotesAll known events rest whole = (more : List Key) → ExtendsKeys known more → AllByRecursion (IsNoted more events) rest → AllByRecursion (IsNoted more events) whole
+NotesAll known events rest whole = (more : List Key) → ExtendsKeys known more → AllByRecursion (IsNotedClaim more events) rest → AllByRecursion (IsNotedClaim more events) whole
 
 pub notes_first : (known : List Key) (events : List Event) (ms : List Move) → NotesAll known events ms ms
 notes_first known events ms = λ more extends h. h
@@ -352,11 +352,11 @@ extends_none known = λ n k e. e
 pub extends_both : (a b c : List Key) → ExtendsKeys a b → ExtendsKeys b c → ExtendsKeys a c
 extends_both a b c f g = λ n k e. g n k (f n k e)
 
-pub note_turn : (old new : List Key) (events : List Event) (first m : Move) (slot end : ℕ) (whole : List Move) → slot < end → m ≡ at_slot first slot → ExtendsKeys old new → IsNoted new events m → NotesAll old events (row_of first slot (end - slot)) whole
-    → NotesAll new events (row_of first (slot + 1) (end - (slot + 1))) whole
+pub note_turn : (old new : List Key) (events : List Event) (first m : Move) (slot end : ℕ) (whole : List Move) → slot < end → m ≡ at_slot first slot → ExtendsKeys old new → IsNotedClaim new events m → NotesAll old events (moves_in_row first slot (end - slot)) whole
+    → NotesAll new events (moves_in_row first (slot + 1) (end - (slot + 1))) whole
 note_turn old new events first m slot end whole inside is extends noted so = λ more further h.
     so more (extends_both old new more extends further)
-    (subst (λ (l : List Move). AllByRecursion (IsNoted more events) l) (sym (row_step first slot end inside)) (subst (λ (x : Move). IsNoted more events x) is (noted_still new more further events m noted), h))
+    (subst (λ (l : List Move). AllByRecursion (IsNotedClaim more events) l) (sym (row_step first slot end inside)) (subst (λ (x : Move). IsNotedClaim more events x) is (noted_still new more further events m noted), h))
 
-pub note_row_done : (known : List Key) (events : List Event) (first : Move) (slot end : ℕ) (whole : List Move) → end ≤ slot → NotesAll known events (row_of first slot (end - slot)) whole → AllByRecursion (IsNoted known events) whole
-note_row_done known events first slot end whole past so = so known (extends_none known) (subst (λ (l : List Move). AllByRecursion (IsNoted known events) l) (row_past first slot end past) tt)
+pub note_row_done : (known : List Key) (events : List Event) (first : Move) (slot end : ℕ) (whole : List Move) → end ≤ slot → NotesAll known events (moves_in_row first slot (end - slot)) whole → AllByRecursion (IsNotedClaim known events) whole
+note_row_done known events first slot end whole past so = so known (extends_none known) (subst (λ (l : List Move). AllByRecursion (IsNotedClaim known events) l) (row_past first slot end past) tt)

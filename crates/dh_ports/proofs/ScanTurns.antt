@@ -9,15 +9,15 @@ use Rattle.dh_ports.specs.declared.levels.Step.{Step}
 use Rattle.dh_ports.specs.declared.moves.Move.{Move}
 use Rattle.dh_ports.specs.declared.moves.Move.TheVariants as move
 use Rattle.dh_events.specs.Classes.{ExtendsKeys}
-use Rattle.dh_ports.specs.Levels.{Level, advance, lefts_from, lefts_of, start}
-use Rattle.dh_ports.specs.Scanned.{all_share, read_key, TakesOf, IsSharing, AreSharing, IsWritten, IsNoted}
+use Rattle.dh_ports.specs.Levels.{Level, advance, lefts_from, left_before_each, start}
+use Rattle.dh_ports.specs.Scanned.{all_share, read_key, TakesOf, IsSharing, AreSharing, IsWritten, IsNotedClaim}
 
 absurd : {A : Type 0} → ⊥ → A
 absurd e = elim e [ ]
 
 -- Lists of steps.
 
-lefts_of_long : (levels : ℕ → Level) (ss : List Step) → length (lefts_of levels ss) ≡ length ss
+lefts_of_long : (levels : ℕ → Level) (ss : List Step) → length (left_before_each levels ss) ≡ length ss
 lefts_of_long levels [] = refl
 lefts_of_long levels (s ∷ ss) = ap suc (lefts_of_long (λ slot. advance slot s (levels slot)) ss)
 
@@ -34,7 +34,7 @@ written_still old new more (Some event.Begins) bank h = h
 written_still old new more (Some event.Next) bank h = h
 written_still old new more (Some event.Ends) bank h = h
 
-pub noted_still : (old new : List Key) → ExtendsKeys old new → (es : List Event) (m : Move) → IsNoted old es m → IsNoted new es m
+pub noted_still : (old new : List Key) → ExtendsKeys old new → (es : List Event) (m : Move) → IsNotedClaim old es m → IsNotedClaim new es m
 noted_still old new more es (move.Claim e bank keys) h = written_still old new more (slice_get es e) bank h
 noted_still old new more es move.Begin h = h
 noted_still old new more es move.Next h = h

@@ -28,7 +28,7 @@ use Rattle.dh_events.specs.Classes as classes
 use Rattle.dh_events.specs.Elements.{moment_assigned_at, clocks_after, element_of, IsElement, IsRead, AreReads, no_clocks}
 use Rattle.dh_events.specs.Incidents.{PortEvent, touches, arm_begins, arm_ends, begins, next, ends, site_at, closed, incidents}
 use Rattle.dh_events.specs.Incidents as incident
-use Rattle.dh_ports.specs.Levels.{Level, start, left_before, lefts_of, lefts_from, begun, gone_back, advance}
+use Rattle.dh_ports.specs.Levels.{Level, start, left_before, left_before_each, lefts_from, begun, gone_back, advance}
 use Rattle.dh_events.specs.Noted.{event_seen, all_seen}
 use Rattle.dh_ports.specs.Scanned.{shares, all_share, key_with, TakesOf, IsSharing, AreSharing, FindsShared}
 use Rattle.dh_events.specs.Stages.{stages_in}
@@ -177,7 +177,7 @@ module _ (w : Walk) where
   module _ (phased : Phased w) (apart_keys : classes.KeysAreDistinct w.keys) (apart_structures : StructuresAreDistinct w.structures) where
     -- of each access to come, whether it shares one
     abbrev Tells : List Happens → List Step → List Noted → (number : ℕ) → (ℕ → Level) → Type 0
-    Tells es ss past number levels = (k : ℕ) (flag : Bool) → slice_get (at_touches (incidents_of es) (all_share ss (lefts_of levels ss))) k ≡ Some flag → flag ≡ is_some (share_in w.program (happened past) (events_of es) (number + k) k)
+    Tells es ss past number levels = (k : ℕ) (flag : Bool) → slice_get (at_touches (incidents_of es) (all_share ss (left_before_each levels ss))) k ≡ Some flag → flag ≡ is_some (share_in w.program (happened past) (events_of es) (number + k) k)
 
     touch_tells : (t : Term) (writes : Bool) (site : Site) (a : SourceAccess) (es : List Happens) (ss : List Step) (past : List Noted) (number : ℕ) (levels : ℕ → Level) (key : Option ℕ)
         → shares (step_of_key key) (left_before (step_of_key key) levels) ≡ is_some (share_among w.program 0 (happened past) number a)

@@ -12,7 +12,7 @@ use Rattle.dh_events.specs.Classes.{KeysAreDistinct, NumbersKey}
 use Rattle.dh_ports.specs.declared.levels.Levels.{Levels}
 use Rattle.dh_ports.specs.declared.levels.Step.{Step}
 use Rattle.dh_ports.specs.declared.levels.Step.TheVariants as step
-use Rattle.dh_ports.specs.Levels.{Level, advance, left_before, lefts_from, lefts_of, level_at, start, IsKept}
+use Rattle.dh_ports.specs.Levels.{Level, advance, left_before, lefts_from, left_before_each, level_at, start, LevelsKept}
 use Rattle.dh_ports.specs.declared.sharing.Sharing.{Sharing}
 use Rattle.dh_ports.specs.SharedSoFar.{AreShared, BeginsShared, IsShared, NotesShare, SharesNext, SharesSoFar}
 use Rattle.dh_ports.specs.Scanned.{all_share, read_key, shares, AreSharing, FindsShared, IsSharing, TakesOf}
@@ -96,12 +96,12 @@ before_known n l l1 e step.End h = refl
 before_known n l l1 e step.Back h = refl
 
 -- what is left of other classes counts for nothing
-lefts_known : (known : List Key) (l l1 : ℕ → Level) → ((m : ℕ) → m < length known → l m ≡ l1 m) → (es : List Event) (ss : List Step) → AreSharing known es ss → lefts_of l ss ≡ lefts_of l1 ss
+lefts_known : (known : List Key) (l l1 : ℕ → Level) → ((m : ℕ) → m < length known → l m ≡ l1 m) → (es : List Event) (ss : List Step) → AreSharing known es ss → left_before_each l ss ≡ left_before_each l1 ss
 lefts_known known l l1 e [] [] h = refl
 lefts_known known l l1 e [] (s ∷ ss) h = absurd h
 lefts_known known l l1 e (x ∷ es) [] h = absurd h
 lefts_known known l l1 e (x ∷ es) (s ∷ ss) h =
-    ap (λ n. n ∷ lefts_of (λ m. advance m s (l m)) ss) (before_known (length known) l l1 e s (step_within known x s h.0))
+    ap (λ n. n ∷ left_before_each (λ m. advance m s (l m)) ss) (before_known (length known) l l1 e s (step_within known x s h.0))
     ∙ ap (λ r. left_before s l1 ∷ r) (lefts_known known (λ m. advance m s (l m)) (λ m. advance m s (l1 m)) (λ m inside. ap (λ v. advance m s v) (e m inside)) es ss h.1)
 
 ones_enough : (known : List Key) (n : ℕ) → length known ≤ n → (es : List Event) (ss : List Step) → AreSharing known es ss → lefts_from (replicate n 1) ss ≡ lefts_from (replicate (length known) 1) ss
@@ -115,7 +115,7 @@ ones_enough known n few es ss h = lefts_known known (λ s. start (slice_index (r
 
 -- The walk.
 
-share_none : (n : ℕ) (starts : List ℕ) (known : List Key) (levels : Levels) (flags : List Bool) → starts ≡ replicate n 1 → known ≡ [] → IsKept levels → ((s : ℕ) → level_at levels s ≡ start (slice_index starts s)) → flags ≡ [] → SharesSoFar n known [] levels flags
+share_none : (n : ℕ) (starts : List ℕ) (known : List Key) (levels : Levels) (flags : List Bool) → starts ≡ replicate n 1 → known ≡ [] → LevelsKept levels → ((s : ℕ) → level_at levels s ≡ start (slice_index starts s)) → flags ≡ [] → SharesSoFar n known [] levels flags
 share_none n starts known levels flags ones none kept begins empty =
     let long : length known ≡ 0 = ap (λ (l : List Key). length l) none in
     record {
@@ -124,7 +124,7 @@ share_none n starts known levels flags ones none kept begins empty =
       few = omega (arith, long);
       kept = kept;
       told = λ rest.
-          ap (λ k. k ++ all_share rest (lefts_of (λ s. level_at levels s) rest)) empty
+          ap (λ k. k ++ all_share rest (left_before_each (λ s. level_at levels s) rest)) empty
           ∙ (ap (λ ls. all_share rest ls) (lefts_same (λ s. level_at levels s) (λ s. start (slice_index starts s)) begins rest)
           ∙ ap (λ l. all_share rest (lefts_from l rest)) ones);
     }
@@ -141,9 +141,9 @@ share_next n old_known known events i d old new before after flag inside is so n
       few = omega (arith, long, was, adds);
       kept = next.kept;
       told = λ rest.
-          ap (λ l. l ++ all_share rest (lefts_of (λ s. level_at new s) rest)) more
-          ∙ (append_assoc before (flag ∷ []) (all_share rest (lefts_of (λ s. level_at new s) rest))
-          ∙ (ap (λ b. before ++ (b ∷ all_share rest (lefts_of (λ s. level_at new s) rest))) next.told
+          ap (λ l. l ++ all_share rest (left_before_each (λ s. level_at new s) rest)) more
+          ∙ (append_assoc before (flag ∷ []) (all_share rest (left_before_each (λ s. level_at new s) rest))
+          ∙ (ap (λ b. before ++ (b ∷ all_share rest (left_before_each (λ s. level_at new s) rest))) next.told
           ∙ (ap (λ ls. before ++ (shares next.step (left_before next.step (λ s. level_at old s)) ∷ all_share rest ls)) (lefts_same (λ s. level_at new s) (λ s. advance s next.step (level_at old s)) next.stepped rest)
           ∙ (so.told (next.step ∷ rest)
           ∙ sym (ap (λ l. all_share l (lefts_from (replicate n 1) l)) (append_assoc so.steps (next.step ∷ []) rest))))));
@@ -176,7 +176,7 @@ flags_long known events i levels flags inside so =
 
 -- All that is noted on the way.
 
-pub share_begins : (count : ℕ) (starts : List ℕ) (s : Sharing) → starts ≡ replicate count 1 → s.classes ≡ [] → IsKept s.levels → ((k : ℕ) → level_at s.levels k ≡ start (slice_index starts k)) → s.flags.items ≡ [] → BeginsShared count s
+pub share_begins : (count : ℕ) (starts : List ℕ) (s : Sharing) → starts ≡ replicate count 1 → s.classes ≡ [] → LevelsKept s.levels → ((k : ℕ) → level_at s.levels k ≡ start (slice_index starts k)) → s.flags.items ≡ [] → BeginsShared count s
 share_begins count starts s ones none kept begins empty = λ events long. record {
   shares = subst (λ (n : ℕ). SharesSoFar n s.classes [] s.levels s.flags.items) (sym long) (share_none count starts s.classes s.levels s.flags.items ones none kept begins empty);
 }

@@ -9,7 +9,7 @@ use Rattle.dh_tree.specs.Memories.{same_entity}
 use Rattle.dh_meaning.specs.Sites.{Arm}
 use Rattle.dh_meets.specs.Sharing.{same_arm, same_truth, all_arms_of}
 use Rattle.dh_meets.specs.SourceEvents.{SourceAccess}
-use Rattle.dh_ports.specs.Levels.{Floor, Level, level, taken, begun, gone_back}
+use Rattle.dh_ports.specs.Levels.{Floor, Level, slot_level, taken, begun, gone_back}
 use Rattle.dh_events.specs.Elements.{moment_assigned_at}
 use Rattle.dh_ports.proofs.JoinedWalks.{has_arm}
 use Rattle.dh_ports.proofs.PastReads.{Noted, noted_access, noted_set, many, many_set, many_access, spends, spends_append, or_false, Walk, Held, Kept, kept_later, kept_access, kept_set, bounded_set}
@@ -188,7 +188,7 @@ stacked_same left new (o ∷ os) base (f ∷ fs) s k = (k.0 ∙ s.0, stacked_sam
 leaves_begun : (left : List Arm → ℕ) (arms inner : List Arm) (outer : List (List Arm)) (l : Level) → left arms ≡ left inner → Leaves left arms outer l → Leaves left inner (arms ∷ outer) (begun l)
 leaves_begun left arms inner outer l e k = record { present = k.present ∙ e; stacked = (k.present, k.stacked) }
 
-gone_leaves : (left : List Arm → ℕ) (o : List Arm) (outer : List (List Arm)) (n b w : ℕ) (floors : List Floor) → Stacked left (o ∷ outer) b floors → Leaves left o outer (gone_back (level n b w floors))
+gone_leaves : (left : List Arm → ℕ) (o : List Arm) (outer : List (List Arm)) (n b w : ℕ) (floors : List Floor) → Stacked left (o ∷ outer) b floors → Leaves left o outer (gone_back (slot_level n b w floors))
 gone_leaves left o outer n b w [] k = absurd k
 gone_leaves left o outer n b w (f ∷ fs) k = record { present = k.0; stacked = k.1 }
 
@@ -245,13 +245,13 @@ module _ (slot : ℕ) (past : List Noted) (a : SourceAccess) (key : Option ℕ) 
       here : spends slot a.site.arms (past ++ noted_access a key ∷ []) ≡ (spends slot a.site.arms past || (own == slot))
       here = spends_here h ∙ ap (λ o. spends slot a.site.arms past || same_entity o (Some slot)) q
 
-      by_test : (t : Bool) → (own == slot) ≡ t → Leaves (left_in slot (past ++ noted_access a key ∷ [])) a.site.arms outer (if own == slot then level (l.now - 1) l.base l.low l.outer else l)
-      by_test true e = subst (λ (t : Bool). Leaves (left_in slot (past ++ noted_access a key ∷ [])) a.site.arms outer (if t then level (l.now - 1) l.base l.low l.outer else l)) (sym e)
+      by_test : (t : Bool) → (own == slot) ≡ t → Leaves (left_in slot (past ++ noted_access a key ∷ [])) a.site.arms outer (if own == slot then slot_level (l.now - 1) l.base l.low l.outer else l)
+      by_test true e = subst (λ (t : Bool). Leaves (left_in slot (past ++ noted_access a key ∷ [])) a.site.arms outer (if t then slot_level (l.now - 1) l.base l.low l.outer else l)) (sym e)
           (record {
             present = less (spends slot a.site.arms past) l.now k.present ∙ ap (λ b. if b then 0 else 1) (sym (here ∙ ap (λ b. spends slot a.site.arms past || b) e));
             stacked = stacked_same _ _ outer l.base l.outer (same_outside outer n) k.stacked;
           })
-      by_test false e = subst (λ (t : Bool). Leaves (left_in slot (past ++ noted_access a key ∷ [])) a.site.arms outer (if t then level (l.now - 1) l.base l.low l.outer else l)) (sym e)
+      by_test false e = subst (λ (t : Bool). Leaves (left_in slot (past ++ noted_access a key ∷ [])) a.site.arms outer (if t then slot_level (l.now - 1) l.base l.low l.outer else l)) (sym e)
           (record {
             present = k.present ∙ ap (λ b. if b then 0 else 1) (sym (here ∙ (ap (λ b. spends slot a.site.arms past || b) e ∙ or_false (spends slot a.site.arms past))));
             stacked = stacked_same _ _ outer l.base l.outer (same_outside outer n) k.stacked;

@@ -33,16 +33,16 @@ use Rattle.dh_events.specs.declared.events.Site.{Site}
 use Rattle.dh_ports.specs.declared.levels.Step.{Step}
 use Rattle.dh_ports.specs.declared.moves.Move.{Move}
 use Rattle.dh_ports.specs.declared.moves.Move.TheVariants as move
-use Rattle.dh_ports.specs.Claims.{access_of, base_of, ports_in, claims_of, moves_from}
-use Rattle.dh_ports.specs.Courses.{count, before_at, Ties}
+use Rattle.dh_ports.specs.Claims.{access_of, first_bank_of, bank_ports_in, claims_of, moves_from}
+use Rattle.dh_ports.specs.Courses.{access_count, before_at, Ties}
 use Rattle.dh_ports.specs.Expanded.{all_taken}
 use Rattle.dh_events.specs.Incidents.{PortEvent, closed}
 use Rattle.dh_ports.specs.Levels.{Level, start}
 use Rattle.dh_events.specs.Noted.{all_seen}
 use Rattle.dh_ports.specs.Scanned.{flag_at, spending_step, spent_place}
-use Rattle.dh_ports.specs.Spent.{Spends}
+use Rattle.dh_ports.specs.Spent.{AccessOverspends}
 use Rattle.dh_ports.specs.Told.{IsToldBefore}
-use Rattle.dh_ports.specs.Wholes.{no_stages, happenings_of, at_touches, Touched, touched, of_access, sites_in, TellsLoops, loops_known, AreEventsOf, TellsShared, TellsSpent, banks_in, banks_at}
+use Rattle.dh_ports.specs.Wholes.{no_stages, happenings_of, at_touches, Touched, touched, of_access, sites_in, TellsLoops, loops_known, AreEventsOf, TellsShared, TellsSpent, entry_bank_count, memory_bank_count}
 use Rattle.dh_events.specs.Stages.{stages_in}
 use Rattle.dh_ports.proofs.ClaimFacts.{found, takes_charge}
 use Rattle.dh_ports.proofs.ClaimedBanks.{Claims, claimed, bank_told, Bounds, LeadsAt, reaching, charged_reach}
@@ -77,19 +77,19 @@ whole_is p xs loops e = subst (λ (l : List PortEvent). IsWhole p l) (sym e) (re
 
 -- an access, and the incident that it is
 pub record AccessAt (p : Program) (xs : List PortEvent) (k : ℕ) (a : SourceAccess) : Type 0 where
-  pub within : k < count xs
+  pub within : k < access_count xs
   pub touch : TouchAt p (loops_known p) 0 xs k
   pub same : access_of (loops_known p touch.site.round) touch.writes touch.access ≡ stripped a
   pub claims : nth_claims (claim_lists p (loops_known p) 0 xs) k ≡ claims_of p (event_of xs k) a
 
 module _ (p : Program) (xs : List PortEvent) (w : IsWhole p xs) where
-  counted : length (accesses_in (trace p)) ≡ count xs
+  counted : length (accesses_in (trace p)) ≡ access_count xs
   counted = sym (length-map _ _) ∙ (ap length (sym w.touched_all) ∙ touched_long xs)
 
   pub access_at : (k : ℕ) (a : SourceAccess) → slice_get (accesses_in (trace p)) k ≡ Some a → AccessAt p xs k a
   access_at k a e = from_touch (touch_at p (loops_known p) 0 xs k within)
     where
-      within : k < count xs
+      within : k < access_count xs
       within = subst (λ (n : ℕ). k < n) counted (slice_get_within (accesses_in (trace p)) k a e)
 
       from_none : (n : ℕ) → 0 + n ≡ n
@@ -105,7 +105,7 @@ module _ (p : Program) (xs : List PortEvent) (w : IsWhole p xs) where
             claims = t.claims ∙ (ap (λ n. claims_of p n (access_of (loops_known p t.site.round) t.writes t.access)) (from_none (event_of xs k)) ∙ (ap (claims_of p (event_of xs k)) same ∙ claims_same p a (event_of xs k)));
           }
 
-  pub access_there : (k : ℕ) → k < count xs → (a : SourceAccess) × (slice_get (accesses_in (trace p)) k ≡ Some a)
+  pub access_there : (k : ℕ) → k < access_count xs → (a : SourceAccess) × (slice_get (accesses_in (trace p)) k ≡ Some a)
   access_there k h = there_is (accesses_in (trace p)) k (subst (λ (n : ℕ). k < n) (sym counted) h)
 
 -- Numbers.
@@ -126,9 +126,9 @@ upto_most c k (one l r) d (inl i) = subst (λ (n : ℕ). c k ≤ n) (sym (upto_o
 upto_most c k (one l r) d (inr i) = subst (λ (n : ℕ). c k ≤ n) (sym (upto_one_second c k l r (λ j. d.1 k j i))) (upto_most c k r d.0.1 i)
 
 -- the ports of a bank by its slot
-ports_at : (es : List MemEntry) (number bank : ℕ) (e : MemEntry) → slice_get es number ≡ Some e → bank < banks_of e.shape.dims → slice_index (ports_in es) (base_of es number + bank) ≡ e.shape.ports
+ports_at : (es : List MemEntry) (number bank : ℕ) (e : MemEntry) → slice_get es number ≡ Some e → bank < banks_of e.shape.dims → slice_index (bank_ports_in es) (first_bank_of es number + bank) ≡ e.shape.ports
 ports_at [] number bank e h b = cc
-ports_at (x ∷ es) zero bank e h b = let same : x ≡ e = some_same x e h in first (banks_of x.shape.dims) bank x.shape.ports (ports_in es) (subst (λ (y : MemEntry). bank < banks_of y.shape.dims) (sym same) b) ∙ ap (λ (y : MemEntry). y.shape.ports) same
+ports_at (x ∷ es) zero bank e h b = let same : x ≡ e = some_same x e h in first (banks_of x.shape.dims) bank x.shape.ports (bank_ports_in es) (subst (λ (y : MemEntry). bank < banks_of y.shape.dims) (sym same) b) ∙ ap (λ (y : MemEntry). y.shape.ports) same
   where
     first : (n b v : ℕ) (rest : List ℕ) → b < n → slice_index (replicate n v ++ rest) (0 + b) ≡ v
     first n b v rest e = ap (slice_index (replicate n v ++ rest)) (none b) ∙ at n b v rest e
@@ -147,8 +147,8 @@ ports_at (x ∷ es) zero bank e h b = let same : x ≡ e = some_same x e h in fi
             less : (b n : ℕ) → suc b < suc n → b < n
             less b n e = omega (arith, e)
 ports_at (x ∷ es) (suc number) bank e h b =
-    ap (slice_index (replicate (banks_of x.shape.dims) x.shape.ports ++ ports_in es)) (grouped (banks_of x.shape.dims) (base_of es number) bank)
-    ∙ (past (banks_of x.shape.dims) (base_of es number + bank) x.shape.ports (ports_in es) ∙ ports_at es number bank e h b)
+    ap (slice_index (replicate (banks_of x.shape.dims) x.shape.ports ++ bank_ports_in es)) (grouped (banks_of x.shape.dims) (first_bank_of es number) bank)
+    ∙ (past (banks_of x.shape.dims) (first_bank_of es number + bank) x.shape.ports (bank_ports_in es) ∙ ports_at es number bank e h b)
   where
     grouped : (a b c : ℕ) → a + b + c ≡ a + (b + c)
     grouped a b c = omega arith
@@ -170,7 +170,7 @@ taken_at flags event keys = if flag_at (slice_get flags event) then 0 else keys
 
 module _ (p : Program) (xs : List PortEvent) (w : IsWhole p xs) (flags : List Bool) (table : IsProgramTable (table_of p))
     (bounds : (k : ℕ) (a : SourceAccess) → slice_get (accesses_in (trace p)) k ≡ Some a → Bounds p a)
-    (told : (k : ℕ) → k < count xs → slice_get flags (event_of xs k) ≡ Some (is_some (shared p k))) where
+    (told : (k : ℕ) → k < access_count xs → slice_get flags (event_of xs k) ≡ Some (is_some (shared p k))) where
   abbrev steps_of : ℕ → List Step
   steps_of k = map (spending_step flags) (nth_claims (claim_lists p (loops_known p) 0 xs) k)
 
@@ -178,18 +178,18 @@ module _ (p : Program) (xs : List PortEvent) (w : IsWhole p xs) (flags : List Bo
   takes slot k = all_taken slot (steps_of k)
 
   abbrev levels : ℕ → Level
-  levels slot = start (slice_index (ports_in (table_of p)) slot)
+  levels slot = start (slice_index (bank_ports_in (table_of p)) slot)
 
   -- what is taken of the bank of a memory is what is charged
   module _ (memory number bank : ℕ) (entry : MemEntry) (known : number_in (memories_of p) (Some memory) ≡ Some number) (stands : slice_get (table_of p) number ≡ Some entry) (inside : bank < banks_of entry.shape.dims) where
     abbrev slot : ℕ
-    slot = base_of (table_of p) number + bank
+    slot = first_bank_of (table_of p) number + bank
 
-    there : bank < banks_at p number
-    there = subst (λ (o : Option MemEntry). bank < banks_in o) (sym stands) inside
+    there : bank < memory_bank_count p number
+    there = subst (λ (o : Option MemEntry). bank < entry_bank_count o) (sym stands) inside
 
     takes_one : (k : ℕ) → takes slot k ≡ charge p memory bank k
-    takes_one k = elim (cases_lt k (count xs)) [
+    takes_one k = elim (cases_lt k (access_count xs)) [
       | inl h ↦
           let a = access_there p xs w k h in
           let at = access_at p xs w k a.0 a.1 in
@@ -199,9 +199,9 @@ module _ (p : Program) (xs : List PortEvent) (w : IsWhole p xs) (flags : List Bo
           ∙ sym (beyond (slice_get (accesses_in (trace p)) k) refl h)
     ]
       where
-        beyond : (o : Option SourceAccess) → slice_get (accesses_in (trace p)) k ≡ o → count xs ≤ k → charge p memory bank k ≡ 0
+        beyond : (o : Option SourceAccess) → slice_get (accesses_in (trace p)) k ≡ o → access_count xs ≤ k → charge p memory bank k ≡ 0
         beyond None e h = ap (charge_of p memory bank k) e
-        beyond (Some a) e h = absurd (not_both k (count xs) (access_at p xs w k a e).within h)
+        beyond (Some a) e h = absurd (not_both k (access_count xs) (access_at p xs w k a e).within h)
           where
             not_both : (k n : ℕ) → k < n → n ≤ k → ⊥
             not_both k n e f = omega (arith, e, f)
@@ -226,7 +226,7 @@ module _ (p : Program) (xs : List PortEvent) (w : IsWhole p xs) (flags : List Bo
     beyond_over : (ports up c : ℕ) → 1 ≤ c → ports < up → ports - (up - c) < c
     beyond_over ports up c e f = omega (arith, e, f)
 
-    spends_if : (k : ℕ) → In k (meets_in p) → before_at (takes slot) 0 (levels slot) xs k < takes slot k → Spends p k
+    spends_if : (k : ℕ) → In k (meets_in p) → before_at (takes slot) 0 (levels slot) xs k < takes slot k → AccessOverspends p k
     spends_if k i over =
         let more : ports_of_entity p memory - (upto (charge p memory bank) k (meets_in p) - charge p memory bank k) < charge p memory bank k =
         subst (λ (n : ℕ). n < charge p memory bank k) (left_is k i) (subst (λ (n : ℕ). before_at (takes slot) 0 (levels slot) xs k < n) (takes_one k) over) in
@@ -268,7 +268,7 @@ module _ (p : Program) (xs : List PortEvent) (w : IsWhole p xs) (flags : List Bo
       only n e = omega (arith, e)
 
   -- an access that takes more of a slot than is left spends ports
-  over_spends : (k other : ℕ) (a : SourceAccess) → slice_get (accesses_in (trace p)) k ≡ Some a → before_at (takes other) 0 (levels other) xs k < takes other k → Spends p k
+  over_spends : (k other : ℕ) (a : SourceAccess) → slice_get (accesses_in (trace p)) k ≡ Some a → before_at (takes other) 0 (levels other) xs k < takes other k → AccessOverspends p k
   over_spends k other a e over =
       let at = access_at p xs w k a e in
       let c = claimed p (event_of xs k) other a (subst (λ (ms : List Move). Claims other ms) at.claims (taken_claims other (nth_claims (claim_lists p (loops_known p) 0 xs) k) (some _ _ over))) in
@@ -278,13 +278,13 @@ module _ (p : Program) (xs : List PortEvent) (w : IsWhole p xs) (flags : List Bo
       some m n e = omega (arith, e)
 
   -- and one that spends ports takes more of some slot than is left
-  spends_over : (k : ℕ) → Spends p k → (k < count xs) × ((other : ℕ) × (before_at (takes other) 0 (levels other) xs k < takes other k))
+  spends_over : (k : ℕ) → AccessOverspends p k → (k < access_count xs) × ((other : ℕ) × (before_at (takes other) 0 (levels other) xs k < takes other k))
   spends_over k s = by_access (slice_get (accesses_in (trace p)) k) refl
     where
       none_one : 1 ≤ 0 → ⊥
       none_one e = omega (arith, e)
 
-      by_access : (o : Option SourceAccess) → slice_get (accesses_in (trace p)) k ≡ o → (k < count xs) × ((other : ℕ) × (before_at (takes other) 0 (levels other) xs k < takes other k))
+      by_access : (o : Option SourceAccess) → slice_get (accesses_in (trace p)) k ≡ o → (k < access_count xs) × ((other : ℕ) × (before_at (takes other) 0 (levels other) xs k < takes other k))
       by_access None e = absurd (none_one (subst (λ (n : ℕ). 1 ≤ n) (ap (charge_of p s.memory s.bank k) e) s.charged))
       by_access (Some a) e = ((access_at p xs w k a e).within, by_shared (is_some (shared p k)) refl)
         where
@@ -293,10 +293,10 @@ module _ (p : Program) (xs : List PortEvent) (w : IsWhole p xs) (flags : List Bo
           by_shared false f =
               let r = reaching p a s.memory s.bank (bounds k a e)
               (charged_reach p a s.memory s.bank (bounds k a e) (subst (λ (n : ℕ). 1 ≤ n) (ap (charge_of p s.memory s.bank k) e ∙ ap (λ b. if b then 0 else charge_by p (way_to p a.entity) a s.memory s.bank) f) s.charged)) in
-              (base_of (table_of p) r.number + s.bank, if_spends s.memory r.number s.bank (entry_of r.owner) r.known r.stands r.within k (access_in p k a e) s.charged s.beyond)
+              (first_bank_of (table_of p) r.number + s.bank, if_spends s.memory r.number s.bank (entry_of r.owner) r.known r.stands r.within k (access_in p k a e) s.charged s.beyond)
 
-  pub stops_told : (o : Option Place) → Stops flags xs p (loops_known p) steps_of (λ slot k. before_at (takes slot) 0 (levels slot) xs k) 0 (count xs) (touched xs) o → TellsSpent p o
-  stops_told None r = none_spends p (λ k i s. let q = spends_over k s in absurd (not_both _ _ (r k q.1.0 (least k) (from_0 k (count xs) q.0)) q.1.1))
+  pub stops_told : (o : Option Place) → Stops flags xs p (loops_known p) steps_of (λ slot k. before_at (takes slot) 0 (levels slot) xs k) 0 (access_count xs) (touched xs) o → TellsSpent p o
+  stops_told None r = none_spends p (λ k i s. let q = spends_over k s in absurd (not_both _ _ (r k q.1.0 (least k) (from_0 k (access_count xs) q.0)) q.1.1))
     where
       least : (k : ℕ) → 0 ≤ k
       least k = omega arith
@@ -367,19 +367,19 @@ spent_told p events flags h loops are long shared_told =
     let w = whole_is p (all_seen events) loops are.seen in
     let f : ℕ → List Step = λ k. map (spending_step flags) (nth_claims (claim_lists p (loops_known p) 0 (all_seen events)) k) in
     stops_told p (all_seen events) w flags h.table (bounds_of p h) told _
-    (walk flags (all_seen events) p (loops_known p) (λ k. map (spending_step flags) (nth_claims (claim_lists p (loops_known p) 0 (all_seen events)) k)) 0 0 (λ slot. start (slice_index (ports_in (table_of p)) slot)) (all_seen events)
+    (walk flags (all_seen events) p (loops_known p) (λ k. map (spending_step flags) (nth_claims (claim_lists p (loops_known p) 0 (all_seen events)) k)) 0 0 (λ slot. start (slice_index (bank_ports_in (table_of p)) slot)) (all_seen events)
     (λ j. ap (λ n. map (spending_step flags) (nth_claims (claim_lists p (loops_known p) 0 (all_seen events)) n)) (from_none j)) (follow_all (all_seen events)))
   where
     from_none : (j : ℕ) → 0 + j ≡ j
     from_none j = omega arith
 
-    told : (k : ℕ) → k < count (all_seen events) → slice_get flags (event_of (all_seen events) k) ≡ Some (is_some (shared p k))
+    told : (k : ℕ) → k < access_count (all_seen events) → slice_get flags (event_of (all_seen events) k) ≡ Some (is_some (shared p k))
     told k e = by_flag (there_is flags (event_of (all_seen events) k) (within k e))
       where
         at : slice_get (at_touches (all_seen events) flags) k ≡ slice_get flags (event_of (all_seen events) k)
         at = at_event (all_seen events) flags k (long ∙ sym (length-map _ _)) e
 
-        within : (k : ℕ) → k < count (all_seen events) → event_of (all_seen events) k < length flags
+        within : (k : ℕ) → k < access_count (all_seen events) → event_of (all_seen events) k < length flags
         within k e =
             let t = touch_at p (loops_known p) 0 (all_seen events) k e in
             subst (λ (n : ℕ). event_of (all_seen events) k < n) (sym (long ∙ sym (length-map _ _))) (slice_get_within (all_seen events) (event_of (all_seen events) k) _ t.stands)

@@ -14,11 +14,11 @@ use Rattle.dh_ports.specs.declared.levels.Step.{Step}
 use Rattle.dh_ports.specs.declared.moves.Move.{Move}
 use Rattle.dh_ports.specs.declared.moves.Move.TheVariants as move
 use Rattle.dh_ports.specs.Claims.{access_of, claims_of, moves_from}
-use Rattle.dh_ports.specs.Courses.{count, less, before_at}
+use Rattle.dh_ports.specs.Courses.{access_count, less, before_at}
 use Rattle.dh_ports.specs.Expanded.{level_behind, all_taken, AreTaking}
 use Rattle.dh_events.specs.Incidents.{PortEvent, touches, assigned, arm_begins, arm_ends, begins, next, ends}
-use Rattle.dh_ports.specs.Levels.{Level, level, taken, begun, kept_back, settled, lefts_of}
-use Rattle.dh_ports.specs.Scanned.{flag_at, spending_step, place_found, first_beyond}
+use Rattle.dh_ports.specs.Levels.{Level, slot_level, taken, begun, kept_back, settled_slot_level, left_before_each}
+use Rattle.dh_ports.specs.Scanned.{flag_at, spending_step, maybe_event_place, first_beyond}
 use Rattle.dh_ports.specs.Wholes.{Touched, touched}
 use Rattle.dh_ports.proofs.ExpandedTies.{steps_taken}
 use Rattle.dh_ports.proofs.ClaimedBanks.{IsClaimOf, all_claims}
@@ -42,7 +42,7 @@ module _ (slot t other : ℕ) (l : Level) (rest : ℕ) where
       none : (n r : ℕ) → n < r → n < 0 + r
       none n r e = omega (arith, e)
 
-      by_test : (b : Bool) → (if b then level (l.now - t) l.base l.low l.outer else l).now < rest → l.now < (if b then t else 0) + rest
+      by_test : (b : Bool) → (if b then slot_level (l.now - t) l.base l.low l.outer else l).now < rest → l.now < (if b then t else 0) + rest
       by_test true e = more l.now t rest e
       by_test false e = none l.now rest e
 
@@ -58,9 +58,9 @@ module _ (slot t other : ℕ) (l : Level) (rest : ℕ) where
 
       by_test : ((slot == other) ≡ true) ⊎ ((slot == other) ≡ false) → (other ≡ slot → t ≤ l.now) → rest ≤ (taken slot t other l).now → (if slot == other then t else 0) + rest ≤ l.now
       by_test (inl e) f g =
-          subst (λ (b : Bool). (if b then t else 0) + rest ≤ l.now) (sym e) (more l.now t rest (f (sym (eqb-true slot other e))) (subst (λ (b : Bool). rest ≤ (if b then level (l.now - t) l.base l.low l.outer else l).now) e g))
+          subst (λ (b : Bool). (if b then t else 0) + rest ≤ l.now) (sym e) (more l.now t rest (f (sym (eqb-true slot other e))) (subst (λ (b : Bool). rest ≤ (if b then slot_level (l.now - t) l.base l.low l.outer else l).now) e g))
       by_test (inr e) f g =
-          subst (λ (b : Bool). (if b then t else 0) + rest ≤ l.now) (sym e) (none l.now rest (subst (λ (b : Bool). rest ≤ (if b then level (l.now - t) l.base l.low l.outer else l).now) e g))
+          subst (λ (b : Bool). (if b then t else 0) + rest ≤ l.now) (sym e) (none l.now rest (subst (λ (b : Bool). rest ≤ (if b then slot_level (l.now - t) l.base l.low l.outer else l).now) e g))
 
 -- steps take more of a slot than is left, or no more of any
 abbrev Over : (ℕ → Level) → List Step → Type 0
@@ -74,7 +74,7 @@ module _ (flags : List Bool) (whole : List PortEvent) where
   step_of m = spending_step flags m
 
   abbrev scan : (ℕ → Level) → List Move → Option Place
-  scan levels ms = first_beyond whole ms (map step_of ms) (lefts_of levels (map step_of ms))
+  scan levels ms = first_beyond whole ms (map step_of ms) (left_before_each levels (map step_of ms))
 
   abbrev behind : (ℕ → Level) → List Move → ℕ → Level
   behind levels ms slot = level_behind slot (levels slot) (map step_of ms)
@@ -82,7 +82,7 @@ module _ (flags : List Bool) (whole : List PortEvent) where
   -- the claims of one access
   abbrev Scans : (event : ℕ) → (ℕ → Level) → (ms rest : List Move) → Type 0
   Scans event levels ms rest =
-      ((scan levels (ms ++ rest) ≡ place_found (slice_get whole event)) × Over levels (map step_of ms))
+      ((scan levels (ms ++ rest) ≡ maybe_event_place (slice_get whole event)) × Over levels (map step_of ms))
       ⊎ ((scan levels (ms ++ rest) ≡ scan (behind levels ms) rest) × Fits levels (map step_of ms))
 
   abbrev taken_at : (event keys : ℕ) → ℕ
@@ -103,15 +103,15 @@ module _ (flags : List Bool) (whole : List PortEvent) where
   by_claim : (event e slot keys : ℕ) (ms rest : List Move) (levels : ℕ → Level) → e ≡ event → (nat_lt (levels slot).now (taken_at e keys) ≡ true) ⊎ (nat_lt (levels slot).now (taken_at e keys) ≡ false)
       → Scans event (λ other. taken slot (taken_at e keys) other (levels other)) ms rest → Scans event levels (move.Claim e slot keys ∷ ms) rest
   by_claim event e slot keys ms rest levels same_event (inl f) r = inl (
-    ap (λ b. if b then place_found (slice_get whole e) else scan (λ other. taken slot (taken_at e keys) other (levels other)) (ms ++ rest)) f ∙ ap (λ n. place_found (slice_get whole n)) same_event,
+    ap (λ b. if b then maybe_event_place (slice_get whole e) else scan (λ other. taken slot (taken_at e keys) other (levels other)) (ms ++ rest)) f ∙ ap (λ n. maybe_event_place (slice_get whole n)) same_event,
     (slot, subst (λ (n : ℕ). (levels slot).now < n) (own_slot slot (taken_at e keys) slot (levels slot) (all_taken slot (map step_of ms)) refl) (beyond (levels slot).now (taken_at e keys) (all_taken slot (map step_of ms)) f)),
   )
   by_claim event e slot keys ms rest levels same_event (inr f) (inl (same, (other, over))) = inl (
-    ap (λ b. if b then place_found (slice_get whole e) else scan (λ other. taken slot (taken_at e keys) other (levels other)) (ms ++ rest)) f ∙ same,
+    ap (λ b. if b then maybe_event_place (slice_get whole e) else scan (λ other. taken slot (taken_at e keys) other (levels other)) (ms ++ rest)) f ∙ same,
     (other, over_behind slot (taken_at e keys) other (levels other) (all_taken other (map step_of ms)) over),
   )
   by_claim event e slot keys ms rest levels same_event (inr f) (inr (same, fits)) = inr (
-    ap (λ b. if b then place_found (slice_get whole e) else scan (λ other. taken slot (taken_at e keys) other (levels other)) (ms ++ rest)) f ∙ same,
+    ap (λ b. if b then maybe_event_place (slice_get whole e) else scan (λ other. taken slot (taken_at e keys) other (levels other)) (ms ++ rest)) f ∙ same,
     λ other. fits_behind slot (taken_at e keys) other (levels other) (all_taken other (map step_of ms)) (λ z. within_at other z) (fits other),
   )
     where
@@ -163,7 +163,7 @@ module _ (flags : List Bool) (whole : List PortEvent) where
     Stops left n count ts (Some place) = FirstOver left n ts place
 
     abbrev Walked : (n : ℕ) → (ℕ → Level) → List PortEvent → Option Place → Type 0
-    Walked n levels xs o = Stops (left_of n levels xs) n (count xs) (touched xs) o
+    Walked n levels xs o = Stops (left_of n levels xs) n (access_count xs) (touched xs) o
 
     -- an access, and what comes behind it
     module _ (n : ℕ) (levels : ℕ → Level) (t : Term) (w : Bool) (site : Site) (xs : List PortEvent) where
@@ -193,7 +193,7 @@ module _ (flags : List Bool) (whole : List PortEvent) where
             equal n x e f = omega (arith, e, f)
 
         pub later : (o : Option Place) → Walked (suc n) (λ slot. less (takes_of slot n) (levels slot)) xs o → Walked n levels (touches t w site ∷ xs) o
-        later None r = λ x other e f. each_fits (suc n + count xs) r x other e (subst (λ (m : ℕ). x < m) (shift n (count xs)) f)
+        later None r = λ x other e f. each_fits (suc n + access_count xs) r x other e (subst (λ (m : ℕ). x < m) (shift n (access_count xs)) f)
           where
             shift : (n m : ℕ) → n + suc m ≡ suc n + m
             shift n m = omega arith
@@ -229,8 +229,8 @@ module _ (flags : List Bool) (whole : List PortEvent) where
       levels_are : ◌≡◌ {A = ℕ → Level} (behind levels (own_claims event t w site)) (λ slot. less (takes_of slot n) (levels slot))
       levels_are = fun_ext level_is
 
-      here : place_found (slice_get whole event) ≡ Some (term_place t)
-      here = ap place_found (follow_here _ xs whole event follows)
+      here : maybe_event_place (slice_get whole event) ≡ Some (term_place t)
+      here = ap maybe_event_place (follow_here _ xs whole event follows)
 
       place_is : (t : Term) → option_map (λ (t : Touched). t.place) (slice_get (touched (touches t w site ∷ xs)) 0) ≡ Some (term_place t)
       place_is (term place kind form) = refl
@@ -269,4 +269,4 @@ module _ (flags : List Bool) (whole : List PortEvent) where
     walk n event levels (arm_ends ∷ xs) lined follows = walk n (event + 1) levels xs lined (follow_next _ xs whole event follows)
     walk n event levels (begins ∷ xs) lined follows = walk n (event + 1) (λ slot. begun (levels slot)) xs lined (follow_next _ xs whole event follows)
     walk n event levels (next ∷ xs) lined follows = walk n (event + 1) (λ slot. kept_back (levels slot)) xs lined (follow_next _ xs whole event follows)
-    walk n event levels (ends ∷ xs) lined follows = walk n (event + 1) (λ slot. settled (kept_back (levels slot))) xs lined (follow_next _ xs whole event follows)
+    walk n event levels (ends ∷ xs) lined follows = walk n (event + 1) (λ slot. settled_slot_level (kept_back (levels slot))) xs lined (follow_next _ xs whole event follows)

@@ -22,7 +22,7 @@ use Rattle.dh_shape.specs.Classified.{Classifies}
 use Rattle.dh_shape.specs.declared.indices.IndexKind.{IndexKind}
 use Rattle.dh_shape.specs.declared.indices.IndexKind.TheVariants as kinds
 use Rattle.dh_ports.specs.Banks.{copy_of}
-use Rattle.dh_ports.specs.Claims.{base_of, ports_in}
+use Rattle.dh_ports.specs.Claims.{first_bank_of, bank_ports_in}
 use Rattle.dh_ports.proofs.ClaimFacts.{index_first, index_last}
 use Rattle.dh_events.proofs.Turns.{at_place}
 
@@ -169,20 +169,20 @@ named_tests (Some n) e f = ap (λ x. Some x) (eqb-true n e f)
 
 -- Bases.
 
-nothing_first : (es : List MemEntry) → base_of es 0 ≡ 0
+nothing_first : (es : List MemEntry) → first_bank_of es 0 ≡ 0
 nothing_first [] = refl
 nothing_first (y ∷ ys) = refl
 
-base_more : (es : List MemEntry) (i : ℕ) (d : MemEntry) → i < length es → base_of es (suc i) ≡ base_of es i + banks_of (get_or es i d).shape.dims
+base_more : (es : List MemEntry) (i : ℕ) (d : MemEntry) → i < length es → first_bank_of es (suc i) ≡ first_bank_of es i + banks_of (get_or es i d).shape.dims
 base_more [] i d h = absurd (none i h)
   where
     none : (i : ℕ) → i < 0 → ⊥
     none i e = omega (arith, e)
-base_more (x ∷ es) zero d h = only (banks_of x.shape.dims) (base_of es 0) (nothing_first es)
+base_more (x ∷ es) zero d h = only (banks_of x.shape.dims) (first_bank_of es 0) (nothing_first es)
   where
     only : (b n : ℕ) → n ≡ 0 → b + n ≡ 0 + b
     only b n e = omega (arith, e)
-base_more (x ∷ es) (suc i) d h = ap (λ n. banks_of x.shape.dims + n) (base_more es i d (less i (length es) h)) ∙ grouped (banks_of x.shape.dims) (base_of es i) (banks_of (get_or es i d).shape.dims)
+base_more (x ∷ es) (suc i) d h = ap (λ n. banks_of x.shape.dims + n) (base_more es i d (less i (length es) h)) ∙ grouped (banks_of x.shape.dims) (first_bank_of es i) (banks_of (get_or es i d).shape.dims)
   where
     less : (i n : ℕ) → suc i < suc n → i < n
     less i n e = omega (arith, e)
@@ -190,8 +190,8 @@ base_more (x ∷ es) (suc i) d h = ap (λ n. banks_of x.shape.dims + n) (base_mo
     grouped : (a b c : ℕ) → a + (b + c) ≡ (a + b) + c
     grouped a b c = omega arith
 
-base_turn : (es : List MemEntry) (i : ℕ) (d : MemEntry) → i < length es → (base : ℕ) → base ≡ base_of es i → base + banks_of (get_or es i d).shape.dims ≡ base_of es (i + 1)
-base_turn es i d inside base e = ap (λ n. n + banks_of (get_or es i d).shape.dims) e ∙ (sym (base_more es i d inside) ∙ ap (base_of es) (sym (add-one i)))
+base_turn : (es : List MemEntry) (i : ℕ) (d : MemEntry) → i < length es → (base : ℕ) → base ≡ first_bank_of es i → base + banks_of (get_or es i d).shape.dims ≡ first_bank_of es (i + 1)
+base_turn es i d inside base e = ap (λ n. n + banks_of (get_or es i d).shape.dims) e ∙ (sym (base_more es i d inside) ∙ ap (first_bank_of es) (sym (add-one i)))
 
 -- a memory has no more banks than elements
 banks_most : (ds : List Dim) → AllByRecursion IsDim ds → banks_of ds ≤ elements_of ds
@@ -210,7 +210,7 @@ banks_most (d ∷ ds) h = both d.banks (banks_of ds) d.size (elements_of ds) (di
         none : (n : ℕ) → n ≡ 0 → 1 ≤ n → ⊥
         none n e f = omega (arith, e, f)
 
-pub base_most : (es : List MemEntry) (n : ℕ) → AllByRecursion IsMemory es → base_of es n ≤ elements_in es
+pub base_most : (es : List MemEntry) (n : ℕ) → AllByRecursion IsMemory es → first_bank_of es n ≤ elements_in es
 base_most [] n h = least 0
   where
     least : (n : ℕ) → 0 ≤ n
@@ -219,7 +219,7 @@ base_most (x ∷ es) zero h = least (elements_of x.shape.dims + elements_in es)
   where
     least : (n : ℕ) → 0 ≤ n
     least n = omega arith
-base_most (x ∷ es) (suc n) h = both (banks_of x.shape.dims) (base_of es n) (elements_of x.shape.dims) (elements_in es) (banks_most x.shape.dims h.0.shape.dims) (base_most es n h.1)
+base_most (x ∷ es) (suc n) h = both (banks_of x.shape.dims) (first_bank_of es n) (elements_of x.shape.dims) (elements_in es) (banks_most x.shape.dims h.0.shape.dims) (base_most es n h.1)
   where
     both : (a b c d : ℕ) → a ≤ c → b ≤ d → a + b ≤ c + d
     both a b c d e f = omega (arith, e, f)
@@ -227,24 +227,24 @@ base_most (x ∷ es) (suc n) h = both (banks_of x.shape.dims) (base_of es n) (el
 pub entry_there : (es : List MemEntry) (i : ℕ) (e : MemEntry) → i < length es → e ≡ get_or es i e → AllByRecursion IsMemory (drop i es) → IsMemory e × AllByRecursion IsMemory (drop (i + 1) es)
 entry_there es i e inside is h = let r = subst (λ (l : List MemEntry). AllByRecursion IsMemory l) (at_place es i e inside) h in (subst IsMemory (sym is) r.0, r.1)
 
-pub ports_turn : (es : List MemEntry) (i n : ℕ) (e : MemEntry) (before ports : List ℕ) → i < length es → e ≡ get_or es i e → before ++ ports_in (drop i es) ≡ ports_in es → n ≡ banks_of e.shape.dims → ports ≡ before ++ replicate n e.shape.ports
-    → ports ++ ports_in (drop (i + 1) es) ≡ ports_in es
+pub ports_turn : (es : List MemEntry) (i n : ℕ) (e : MemEntry) (before ports : List ℕ) → i < length es → e ≡ get_or es i e → before ++ bank_ports_in (drop i es) ≡ bank_ports_in es → n ≡ banks_of e.shape.dims → ports ≡ before ++ replicate n e.shape.ports
+    → ports ++ bank_ports_in (drop (i + 1) es) ≡ bank_ports_in es
 ports_turn es i n e before ports inside is h counted so =
-    ap (λ l. l ++ ports_in (drop (i + 1) es)) (so ∙ ap (λ m. before ++ replicate m e.shape.ports) counted)
-    ∙ (append_assoc before (replicate (banks_of e.shape.dims) e.shape.ports) (ports_in (drop (i + 1) es))
-    ∙ (ap (λ l. before ++ ports_in l) (ap (λ x. x ∷ drop (i + 1) es) is ∙ sym (at_place es i e inside)) ∙ h))
+    ap (λ l. l ++ bank_ports_in (drop (i + 1) es)) (so ∙ ap (λ m. before ++ replicate m e.shape.ports) counted)
+    ∙ (append_assoc before (replicate (banks_of e.shape.dims) e.shape.ports) (bank_ports_in (drop (i + 1) es))
+    ∙ (ap (λ l. before ++ bank_ports_in l) (ap (λ x. x ∷ drop (i + 1) es) is ∙ sym (at_place es i e inside)) ∙ h))
 
-pub base_none : (es : List MemEntry) → 0 ≡ base_of es 0
+pub base_none : (es : List MemEntry) → 0 ≡ first_bank_of es 0
 base_none [] = refl
 base_none (e ∷ es) = refl
 
-pub base_next : (es : List MemEntry) (i base count : ℕ) (e : MemEntry) → i < length es → e ≡ get_or es i e → base ≡ base_of es i → count ≡ banks_of e.shape.dims → base + count ≡ base_of es (i + 1)
+pub base_next : (es : List MemEntry) (i base count : ℕ) (e : MemEntry) → i < length es → e ≡ get_or es i e → base ≡ first_bank_of es i → count ≡ banks_of e.shape.dims → base + count ≡ first_bank_of es (i + 1)
 base_next es i base count e inside is at counted = ap (λ n. base + n) (counted ∙ ap (λ (x : MemEntry). banks_of x.shape.dims) is) ∙ base_turn es i e inside base at
 
-pub bases_more : (es : List MemEntry) (bases : List ℕ) (i base : ℕ) → length bases ≡ i → base ≡ base_of es i → ((m : ℕ) → m < i → slice_index bases m ≡ base_of es m) → (m : ℕ) → m < i + 1 → slice_index (bases ++ base ∷ []) m ≡ base_of es m
+pub bases_more : (es : List MemEntry) (bases : List ℕ) (i base : ℕ) → length bases ≡ i → base ≡ first_bank_of es i → ((m : ℕ) → m < i → slice_index bases m ≡ first_bank_of es m) → (m : ℕ) → m < i + 1 → slice_index (bases ++ base ∷ []) m ≡ first_bank_of es m
 bases_more es bases i base long at each m h = elim (cases_lt m i) [
   | inl less ↦ index_first bases base m (subst (λ (n : ℕ). m < n) (sym long) less) ∙ each m less
-  | inr more ↦ index_last bases base m (equal m i h more ∙ sym long) ∙ (at ∙ ap (base_of es) (sym (equal m i h more)))
+  | inr more ↦ index_last bases base m (equal m i h more ∙ sym long) ∙ (at ∙ ap (first_bank_of es) (sym (equal m i h more)))
 ]
   where
     equal : (m i : ℕ) → m < i + 1 → i ≤ m → m ≡ i

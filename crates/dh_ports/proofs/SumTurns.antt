@@ -11,7 +11,7 @@ use Rattle.dh_ports.specs.declared.keeping.Counts.{Counts}
 use Rattle.dh_ports.specs.declared.keeping.Sums.{Sums}
 use Rattle.dh_ports.specs.Banks.{each_below}
 use Rattle.dh_ports.specs.Carriers.{sum_below, AreGroupSums}
-use Rattle.dh_ports.specs.Copies.{bank_of_lanes, key_of_levels, same_number, AreCounts}
+use Rattle.dh_ports.specs.Copies.{bank_of_lanes, key_of_levels, same_number, AreKeyCounts}
 use Rattle.dh_ports.specs.Tallies.{AreCountsKept, AreCountsOf, AreSums, AreSumsOf, CarryAlike, ReachAlike}
 use Rattle.dh_ports.proofs.CarrierMade.{zero_at, zeros_long}
 
@@ -19,7 +19,7 @@ use Rattle.dh_ports.proofs.CarrierMade.{zero_at, zeros_long}
 abbrev keys_of : List Level → List Lane → (own from many bank : ℕ) → ℕ
 keys_of levels lanes own from many bank = distinct_count same_number (map (λ number. key_of_levels levels number) (filter (λ number. (own + bank_of_lanes levels lanes number) == bank) (each_below (λ k. from + k) many)))
 
-pub counts_alike : (r s : Reach) (from many banks : ℕ) (counts : List ℕ) → ReachAlike r s → AreCounts r from many banks counts → AreCounts s from many banks counts
+pub counts_alike : (r s : Reach) (from many banks : ℕ) (counts : List ℕ) → ReachAlike r s → AreKeyCounts r from many banks counts → AreKeyCounts s from many banks counts
 counts_alike r s from many banks counts reaches are = record {
   long = are.long;
   each = λ bank inside.
@@ -28,14 +28,14 @@ counts_alike r s from many banks counts reaches are = record {
       ∙ (ap (λ x. keys_of s.paths.levels.items x r.own from many bank) reaches.lanes ∙ ap (λ x. keys_of s.paths.levels.items s.lanes.items x from many bank) reaches.own));
 }
 
-pub counts_again : (c : Counts) (reach : Reach) (many banks : ℕ) → AreCountsOf c reach many banks → AreCountsKept c → AreCounts reach 0 many banks c.counts.items
+pub counts_again : (c : Counts) (reach : Reach) (many banks : ℕ) → AreCountsOf c reach many banks → AreCountsKept c → AreKeyCounts reach 0 many banks c.counts.items
 counts_again c reach many banks alike are =
-    subst (λ (n : ℕ). AreCounts reach 0 n banks c.counts.items) alike.same_many
-    (subst (λ (n : ℕ). AreCounts reach 0 c.many n c.counts.items) alike.same_banks
+    subst (λ (n : ℕ). AreKeyCounts reach 0 n banks c.counts.items) alike.same_many
+    (subst (λ (n : ℕ). AreKeyCounts reach 0 c.many n c.counts.items) alike.same_banks
     (counts_alike c.reach reach 0 c.many c.banks c.counts.items alike.reaches are))
 
 -- those of no bank
-pub no_bank_counted : (reach : Reach) (many : ℕ) (counts : List ℕ) → counts ≡ [] → AreCounts reach 0 many 0 counts
+pub no_bank_counted : (reach : Reach) (many : ℕ) (counts : List ℕ) → counts ≡ [] → AreKeyCounts reach 0 many 0 counts
 no_bank_counted reach many counts none = record { long = ap length none; each = λ bank inside. elim (never bank inside) [ ] }
   where
     never : (n : ℕ) → n < 0 → ⊥

@@ -34,7 +34,7 @@ use Rattle.dh_ports.specs.declared.moves.Move.TheVariants as move
 use Rattle.dh_ports.specs.Banks.{bank_at_path, each_below}
 use Rattle.dh_shape.specs.Classified.{loops_in}
 use Rattle.dh_ports.specs.Carriers.{carried_to, is_carried, one_at, AreEach, IsCarrier}
-use Rattle.dh_ports.specs.Claims.{base_of, claim_at, claims_at, claims_from, claims_in, claims_of, count_on, source_of, AreBases}
+use Rattle.dh_ports.specs.Claims.{first_bank_of, claim_at, claims_at, claims_from, claims_in, claims_of, count_on, source_of, AreBases}
 use Rattle.dh_ports.proofs.CarrierPlaces.{carrier_is, each_many, led_there}
 use Rattle.dh_ports.proofs.ClaimFacts.{Declared, found}
 use Rattle.dh_ports.proofs.ClaimTurns.{base_is, base_there, claims_last, counts_each, index_found, memory_there, slots_few}
@@ -150,18 +150,18 @@ module _ (tree : Tree) (event : ℕ) (loops : List Counter) (writes : Bool) (e :
     pub banks_through : length k.sources.items ≡ banks_of leads.memory.shape.dims
     banks_through = carrier.long leads.memory.shape.dims leads.steps
 
-    all_through : claims_of (program_seen tree) event (source_of loops writes e) ≡ claims_from event (base_of (table_of (program_seen tree)) m) (each_below (charge_through (program_seen tree) w (source_of loops writes e)) (length k.sources.items))
+    all_through : claims_of (program_seen tree) event (source_of loops writes e) ≡ claims_from event (first_bank_of (table_of (program_seen tree)) m) (each_below (charge_through (program_seen tree) w (source_of loops writes e)) (length k.sources.items))
     all_through =
         claims_through
         ∙ (ap (λ n. claims_at (program_seen tree) event n (source_of loops writes e)) is
-        ∙ (ap (λ x. claims_in (program_seen tree) event (base_of (table_of (program_seen tree)) m) x (source_of loops writes e)) entry_through
-        ∙ ap (claims_from event (base_of (table_of (program_seen tree)) m))
+        ∙ (ap (λ x. claims_in (program_seen tree) event (first_bank_of (table_of (program_seen tree)) m) x (source_of loops writes e)) entry_through
+        ∙ ap (claims_from event (first_bank_of (table_of (program_seen tree)) m))
         (counts_each (program_seen tree) leads.memory.shape.dims (source_of loops writes e) (banks_of leads.memory.shape.dims)
         ∙ (ap (λ x. each_below (count_on (program_seen tree) x leads.memory.shape.dims (source_of loops writes e)) (banks_of leads.memory.shape.dims)) named
         ∙ (each_same (count_on (program_seen tree) (Some w) leads.memory.shape.dims (source_of loops writes e)) (charge_through (program_seen tree) w (source_of loops writes e)) (banks_of leads.memory.shape.dims) (λ j i. refl)
         ∙ ap (each_below (charge_through (program_seen tree) w (source_of loops writes e))) (sym banks_through))))))
 
-    pub base_through : (bases : List ℕ) (base : ℕ) → AreBases (table_of (program_seen tree)) bases → base ≡ get_or bases m base → base ≡ base_of (table_of (program_seen tree)) m
+    pub base_through : (bases : List ℕ) (base : ℕ) → AreBases (table_of (program_seen tree)) bases → base ≡ get_or bases m base → base ≡ first_bank_of (table_of (program_seen tree)) m
     base_through bases base h here =
         let inside = memory_there (table_of (program_seen tree)) m (entry_of leads.memory) entry_through in
         here ∙ (index_found bases m base (base_there (table_of (program_seen tree)) bases m h inside) ∙ base_is (table_of (program_seen tree)) bases m h inside)
@@ -169,10 +169,10 @@ module _ (tree : Tree) (event : ℕ) (loops : List Counter) (writes : Bool) (e :
     pub bases_through : (bases : List ℕ) → AreBases (table_of (program_seen tree)) bases → m < length bases
     bases_through bases h = base_there (table_of (program_seen tree)) bases m h (memory_there (table_of (program_seen tree)) m (entry_of leads.memory) entry_through)
 
-    pub slots_through : IsProgramTable (table_of (program_seen tree)) → (base : ℕ) → base ≡ base_of (table_of (program_seen tree)) m → base + length k.sources.items ≤ 2097152
+    pub slots_through : IsProgramTable (table_of (program_seen tree)) → (base : ℕ) → base ≡ first_bank_of (table_of (program_seen tree)) m → base + length k.sources.items ≤ 2097152
     slots_through h base at = slots_few (table_of (program_seen tree)) m (entry_of leads.memory) entry_through h base (length k.sources.items) leads.memory.shape.dims refl at banks_through
 
-    pub counts_through : (base : ℕ) (counts : List ℕ) → base ≡ base_of (table_of (program_seen tree)) m → counts ≡ each_below (charge_through (program_seen tree) w (source_of loops writes e)) (length k.sources.items) → claims_of (program_seen tree) event (source_of loops writes e) ≡ claims_from event base counts
+    pub counts_through : (base : ℕ) (counts : List ℕ) → base ≡ first_bank_of (table_of (program_seen tree)) m → counts ≡ each_below (charge_through (program_seen tree) w (source_of loops writes e)) (length k.sources.items) → claims_of (program_seen tree) event (source_of loops writes e) ≡ claims_from event base counts
     counts_through base counts at told = all_through ∙ (ap (λ n. claims_from event n (each_below (charge_through (program_seen tree) w (source_of loops writes e)) (length k.sources.items))) (sym at) ∙ ap (claims_from event base) (sym told))
 
     -- outside every unrolled loop there is one path, and one key
@@ -200,7 +200,7 @@ module _ (tree : Tree) (event : ℕ) (loops : List Counter) (writes : Bool) (e :
           only : (n : ℕ) → n + 0 ≡ n
           only n = omega arith
 
-      pub one_through : loops ≡ [] → (base : ℕ) → base ≡ base_of (table_of (program_seen tree)) m → claims_of (program_seen tree) event (source_of loops writes e) ≡ claims_from event base (each_below (carried_to k (one_at bank)) (length k.sources.items))
+      pub one_through : loops ≡ [] → (base : ℕ) → base ≡ first_bank_of (table_of (program_seen tree)) m → claims_of (program_seen tree) event (source_of loops writes e) ≡ claims_from event base (each_below (carried_to k (one_at bank)) (length k.sources.items))
       one_through none base at =
           counts_through base (each_below (charge_through (program_seen tree) w (source_of loops writes e)) (length k.sources.items)) at refl
           ∙ ap (claims_from event base)

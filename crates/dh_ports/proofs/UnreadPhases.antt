@@ -14,8 +14,8 @@ use Rattle.dh_ports.specs.declared.moves.Move.{Move}
 use Rattle.dh_ports.specs.declared.moves.Move.TheVariants as move
 use Rattle.dh_ports.specs.declared.moves.Run.{Run}
 use Rattle.dh_ports.specs.Orders.{is_quiet_at, is_quiet_move, AreRead, MarksRead, ReadSoFar}
-use Rattle.dh_ports.specs.Runs.{at_slot, moves_in, moves_of_run, row_of, slot_of}
-use Rattle.dh_ports.specs.Scanned.{move_phase, phase_at, HasRead, IsNoted, IsNotedFor, IsReadAt}
+use Rattle.dh_ports.specs.Runs.{at_slot, moves_in, moves_of_run, moves_in_row, claimed_slot}
+use Rattle.dh_ports.specs.Scanned.{move_phase, event_phase, HasRead, IsNotedClaim, IsNotedFor, IsReadAt}
 use Rattle.dh_ports.proofs.RunTurns.{all_both, extends_both, extends_none, runs_at}
 use Rattle.dh_ports.proofs.ScanTurns.{noted_still}
 
@@ -81,7 +81,7 @@ read_done events i marked past so = λ phase has. by phase (so phase has)
 -- Runs that are passed over.
 
 module _ (events : List Event) (marked : List ℕ) (are : AreRead events marked) where
-  none_read : (o : Option Event) → is_quiet_at marked o ≡ true → HasRead events (phase_at o) → ⊥
+  none_read : (o : Option Event) → is_quiet_at marked o ≡ true → HasRead events (event_phase o) → ⊥
   none_read None quiet has = never quiet
   none_read (Some (event.Touch writes phase round access element newest)) quiet has = apart (slice_index marked phase) (are phase has) (eqb-true (slice_index marked phase) 0 quiet)
     where
@@ -100,16 +100,16 @@ module _ (events : List Event) (marked : List ℕ) (are : AreRead events marked)
   move_unread move.Next quiet slot has = never quiet
   move_unread move.End quiet slot has = never quiet
 
-  unread_row : (known : List Key) (m : Move) → ((slot : ℕ) → HasRead events (move_phase events (at_slot m slot)) → ⊥) → (slot many : ℕ) → AllByRecursion (IsNotedFor known events) (row_of m slot many)
+  unread_row : (known : List Key) (m : Move) → ((slot : ℕ) → HasRead events (move_phase events (at_slot m slot)) → ⊥) → (slot many : ℕ) → AllByRecursion (IsNotedFor known events) (moves_in_row m slot many)
   unread_row known m none slot zero = tt
   unread_row known m none slot (suc many) = (λ has. absurd (none slot has), unread_row known m none (suc slot) many)
 
   pub unread_run : (known : List Key) (r : Run) (b : Bool) → b ≡ is_quiet_move marked events r.first → b ≡ true → AllByRecursion (IsNotedFor known events) (moves_of_run r)
-  unread_run known r b told quiet = unread_row known r.first (move_unread r.first (sym told ∙ quiet)) (slot_of r.first) (r.end - slot_of r.first)
+  unread_run known r b told quiet = unread_row known r.first (move_unread r.first (sym told ∙ quiet)) (claimed_slot r.first) (r.end - claimed_slot r.first)
 
 -- Runs whose claims are noted.
 
-pub needed : (known : List Key) (events : List Event) (ms : List Move) → AllByRecursion (IsNoted known events) ms → AllByRecursion (IsNotedFor known events) ms
+pub needed : (known : List Key) (events : List Event) (ms : List Move) → AllByRecursion (IsNotedClaim known events) ms → AllByRecursion (IsNotedFor known events) ms
 needed known events [] h = tt
 needed known events (m ∷ ms) h = (λ has. h.0, needed known events ms h.1)
 

@@ -21,13 +21,13 @@ use Rattle.dh_ports.specs.declared.sharing.Sharing.{Sharing}
 use Rattle.dh_ports.specs.declared.spending.Walked.{Walked}
 use Rattle.dh_ports.specs.declared.spending.Walked.TheVariants as walked
 use Rattle.dh_ports.specs.Ahead.{IsAhead, NotesMoves}
-use Rattle.dh_ports.specs.Claims.{moves_from, ports_in}
+use Rattle.dh_ports.specs.Claims.{moves_from, bank_ports_in}
 use Rattle.dh_ports.specs.EventMoves.{moves_known, moves_of}
-use Rattle.dh_ports.specs.Levels.{level_at, start, IsKept}
+use Rattle.dh_ports.specs.Levels.{level_at, start, LevelsKept}
 use Rattle.dh_ports.specs.Passing.{beyond_from, first_from}
 use Rattle.dh_ports.specs.Scanned.{flag_at, spending_step, IsMoveOf}
 use Rattle.dh_ports.specs.SharedSoFar.{IsShared, NotesShare}
-use Rattle.dh_ports.specs.Walks.{place_walked, IsWalked, KeptWhile, SpendsTo}
+use Rattle.dh_ports.specs.Walks.{place_walked, EventsAreWalked, KeptWhile, SpendsTo}
 use Rattle.dh_ports.proofs.AheadNotes.{nothing_ahead}
 use Rattle.dh_ports.proofs.MoveTurns.{moves_done, moves_here, moves_turn, moves_within, within_turn}
 use Rattle.dh_ports.proofs.RunTurns.{spent_start}
@@ -112,10 +112,10 @@ pub record WalksTo (p : Program) (layout : Layout) (events : List Event) (i : �
   pub ahead : IsAhead events before lasts
   pub shared : IsShared events i sharing
   pub kept : KeptWhile after levels
-  pub spent : (more : List Bool) → SpentSo (all_seen events) (sharing.flags.items ++ more) levels after (moves_from p (loops_listed layout.rounds.items) i (all_seen (drop i events))) (first_from (all_seen events) (sharing.flags.items ++ more) (ports_in (table_of p)) (moves_known p layout events))
+  pub spent : (more : List Bool) → SpentSo (all_seen events) (sharing.flags.items ++ more) levels after (moves_from p (loops_listed layout.rounds.items) i (all_seen (drop i events))) (first_from (all_seen events) (sharing.flags.items ++ more) (bank_ports_in (table_of p)) (moves_known p layout events))
 
 module _ (p : Program) (layout : Layout) (events : List Event) where
-  pub walk_begins : (sharing : Sharing) (lasts : LastWrites) (levels : Levels) (ports : List ℕ) → IsShared events 0 sharing → IsKept levels → ((s : ℕ) → level_at levels s ≡ start (slice_index ports s)) → ports ≡ ports_in (table_of p) → WalksTo p layout events 0 sharing lasts levels walked.Past
+  pub walk_begins : (sharing : Sharing) (lasts : LastWrites) (levels : Levels) (ports : List ℕ) → IsShared events 0 sharing → LevelsKept levels → ((s : ℕ) → level_at levels s ≡ start (slice_index ports s)) → ports ≡ bank_ports_in (table_of p) → WalksTo p layout events 0 sharing lasts levels walked.Past
   walk_begins sharing lasts levels ports shared kept starts ports_are = record {
     before = [];
     whole = refl;
@@ -160,7 +160,7 @@ module _ (p : Program) (layout : Layout) (events : List Event) where
       rest = moves_from p (loops_listed layout.rounds.items) (i + 1) (all_seen (drop (i + 1) events))
 
       abbrev place_by : List Bool → Option Place
-      place_by shared = first_from (all_seen events) shared (ports_in (table_of p)) (moves_known p layout events)
+      place_by shared = first_from (all_seen events) shared (bank_ports_in (table_of p)) (moves_known p layout events)
 
       rest_is : moves_from p (loops_listed layout.rounds.items) i (all_seen (drop i events)) ≡ ms ++ rest
       rest_is = moves_here p (loops_listed layout.rounds.items) events i d inside is ∙ ap (λ l. l ++ rest) (sym are)
@@ -193,16 +193,16 @@ module _ (p : Program) (layout : Layout) (events : List Event) where
     nothing_left : moves_from p (loops_listed layout.rounds.items) i (all_seen (drop i events)) ≡ []
     nothing_left = ap (λ l. moves_from p (loops_listed layout.rounds.items) i (all_seen l)) (drop_all i events past)
 
-    spent_all : (shared : List Bool) → sharing.flags.items ++ [] ≡ shared → SpentSo (all_seen events) shared levels after [] (first_from (all_seen events) shared (ports_in (table_of p)) (moves_known p layout events))
+    spent_all : (shared : List Bool) → sharing.flags.items ++ [] ≡ shared → SpentSo (all_seen events) shared levels after [] (first_from (all_seen events) shared (bank_ports_in (table_of p)) (moves_known p layout events))
     spent_all shared is =
-        subst (λ (l : List Bool). SpentSo (all_seen events) l levels after [] (first_from (all_seen events) l (ports_in (table_of p)) (moves_known p layout events))) is
-        (subst (λ (ms : List Move). SpentSo (all_seen events) (sharing.flags.items ++ []) levels after ms (first_from (all_seen events) (sharing.flags.items ++ []) (ports_in (table_of p)) (moves_known p layout events))) nothing_left (so.spent []))
+        subst (λ (l : List Bool). SpentSo (all_seen events) l levels after [] (first_from (all_seen events) l (bank_ports_in (table_of p)) (moves_known p layout events))) is
+        (subst (λ (ms : List Move). SpentSo (all_seen events) (sharing.flags.items ++ []) levels after ms (first_from (all_seen events) (sharing.flags.items ++ []) (bank_ports_in (table_of p)) (moves_known p layout events))) nothing_left (so.spent []))
 
-    pub walk_done : KeysAreDistinct sharing.classes → IsWalked p layout events sharing lasts after
+    pub walk_done : KeysAreDistinct sharing.classes → EventsAreWalked p layout events sharing lasts after
     walk_done distinct = record {
       distinct = distinct;
       shared = share_ends events i sharing past so.shared;
       within = subst (λ (ms : List Move). AllByRecursion (IsMoveOf (length events)) ms) all_before so.within;
       ahead = subst (λ (ms : List Move). IsAhead events ms lasts) all_before so.ahead;
-      spent = spent_end (all_seen events) sharing.flags.items levels after (first_from (all_seen events) sharing.flags.items (ports_in (table_of p)) (moves_known p layout events)) (spent_all sharing.flags.items (append-nil sharing.flags.items));
+      spent = spent_end (all_seen events) sharing.flags.items levels after (first_from (all_seen events) sharing.flags.items (bank_ports_in (table_of p)) (moves_known p layout events)) (spent_all sharing.flags.items (append-nil sharing.flags.items));
     }

@@ -20,7 +20,7 @@ copy_of loops path None = 0
 copy_of loops path (Some e) = slice_index_or path (level_of_loop loops (Some e)) 0
 
 -- the value of an index in the first copy, and the iterator that counts its copies
-pub record IsStart (tree : Tree) (index : Expr) (start : Start) : Type 0 where
+pub record IsIndexStart (tree : Tree) (index : Expr) (start : Start) : Type 0 where
   pub value : (loops : List Counter) (path : Path)
       → index_in loops path (index_kind (loops_in tree) index.kind (form_seen index.form)) ≡ unsigned_abs (pos (start.low + copy_of loops path start.iterator) +ℤ start.offset)
 

@@ -18,20 +18,20 @@ use Rattle.dh_ports.specs.declared.copies.Reach.{Reach}
 use Rattle.dh_ports.specs.declared.moves.Move.{Move}
 use Rattle.dh_ports.specs.Banks.{each_below}
 use Rattle.dh_ports.specs.Claims.{claims_from}
-use Rattle.dh_ports.specs.Copies.{keys_from}
+use Rattle.dh_ports.specs.Copies.{key_count_from}
 
 -- Views.
 
-abbrev pub is_shift : ViewSort → Bool
-is_shift Shrink = false
-is_shift Split = false
-is_shift Suffix = false
-is_shift Shift = true
+abbrev pub is_shift_sort : ViewSort → Bool
+is_shift_sort Shrink = false
+is_shift_sort Split = false
+is_shift_sort Suffix = false
+is_shift_sort Shift = true
 
 -- one of these views is a shift
 abbrev pub has_shift : List ViewMap → Bool
 has_shift [] = false
-has_shift (v ∷ vs) = is_shift v.sort || has_shift vs
+has_shift (v ∷ vs) = is_shift_sort v.sort || has_shift vs
 
 -- the bank of a view as which a bank of its parent is charged, where the view is no shift
 abbrev pub source_in : ViewSort → (view parent : List Dim) → (bank : ℕ) → ℕ
@@ -51,8 +51,8 @@ banks_behind banks [] = banks
 banks_behind banks (v ∷ vs) = banks_behind (banks_of v.parent.dims) vs
 
 -- the views on a way that the code keeps, the named one first
-abbrev pub views_of : KeptWay → List ViewMap
-views_of w = w.view ∷ w.behind
+abbrev pub views_on_way : KeptWay → List ViewMap
+views_on_way w = w.view ∷ w.behind
 
 -- they lead to something of some dimensions
 pub record Follow (w : KeptWay) : Type 0 where
@@ -109,7 +109,7 @@ sum_below (suc n) f = sum_below n f + f n
 
 -- what so many groups of so many paths each carry to a bank
 abbrev pub group_sum : Reach → Carrier → (stride groups bank : ℕ) → ℕ
-group_sum reach c stride groups bank = sum_below groups (λ group. carried_to c (keys_from reach (group * stride) stride) bank)
+group_sum reach c stride groups bank = sum_below groups (λ group. carried_to c (key_count_from reach (group * stride) stride) bank)
 
 pub record AreGroupSums (reach : Reach) (c : Carrier) (stride groups : ℕ) (sums : List ℕ) : Type 0 where
   pub long : length sums ≡ length c.sources.items

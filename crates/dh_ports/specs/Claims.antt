@@ -25,20 +25,20 @@ use Rattle.dh_events.specs.Incidents.{PortEvent, touches, assigned, arm_begins, 
 -- Banks.
 
 -- the place of the first bank of a memory among all banks
-abbrev pub base_of : List MemEntry → (memory : ℕ) → ℕ
-base_of [] memory = 0
-base_of (e ∷ es) zero = 0
-base_of (e ∷ es) (suc memory) = banks_of e.shape.dims + base_of es memory
+abbrev pub first_bank_of : List MemEntry → (memory : ℕ) → ℕ
+first_bank_of [] memory = 0
+first_bank_of (e ∷ es) zero = 0
+first_bank_of (e ∷ es) (suc memory) = banks_of e.shape.dims + first_bank_of es memory
 
 -- the ports of each bank
-abbrev pub ports_in : List MemEntry → List ℕ
-ports_in [] = []
-ports_in (e ∷ es) = replicate (banks_of e.shape.dims) e.shape.ports ++ ports_in es
+abbrev pub bank_ports_in : List MemEntry → List ℕ
+bank_ports_in [] = []
+bank_ports_in (e ∷ es) = replicate (banks_of e.shape.dims) e.shape.ports ++ bank_ports_in es
 
 -- of each memory, and of what would be the next one
 pub record AreBases (table : List MemEntry) (bases : List ℕ) : Type 0 where
   pub long : length bases ≡ length table + 1
-  pub each : (memory : ℕ) → memory ≤ length table → slice_index bases memory ≡ base_of table memory
+  pub each : (memory : ℕ) → memory ≤ length table → slice_index bases memory ≡ first_bank_of table memory
 
 -- Accesses.
 
@@ -95,7 +95,7 @@ claims_in p event base (Some e) a = claims_from event base (counts_to p e.shape.
 -- the claims of an access of the memory of a number
 abbrev pub claims_at : Program → (event : ℕ) → Option ℕ → SourceAccess → List Move
 claims_at p event None a = []
-claims_at p event (Some memory) a = claims_in p event (base_of (table_of p) memory) (slice_get (table_of p) memory) a
+claims_at p event (Some memory) a = claims_in p event (first_bank_of (table_of p) memory) (slice_get (table_of p) memory) a
 
 -- the entity of the memory that an access leads to
 abbrev pub owner_of : Program → SourceAccess → Option ℕ

@@ -32,7 +32,7 @@ abbrev pub copies_round : List Counter → ℕ
 copies_round loops = copies_in (loop_factors loops)
 
 -- a loop has copies
-pub record IsSpread (level : Level) : Type 0 where
+pub record IsSpreadLevel (level : Level) : Type 0 where
   pub factor : 1 ≤ level.factor
   pub stride : 1 ≤ level.stride
 
@@ -44,7 +44,7 @@ AreLevels picks level (factor ∷ factors) (l ∷ ls) =
 AreLevels picks level _ _ = ⊥
 
 -- the loops round an access as numbers of paths tell their copies
-pub record ArePaths (scopes : List (Option Scope)) (loops : List Counter) (access : Expr) (writes : Bool) (paths : Paths) : Type 0 where
+pub record AreAccessPaths (scopes : List (Option Scope)) (loops : List Counter) (access : Expr) (writes : Bool) (paths : Paths) : Type 0 where
   pub count : paths.count ≡ copies_round loops
   pub levels : (bs : List Binding) → AreScopes bs scopes → 1 ≤ copies_round loops → AreLevels (depends bs (source_of loops writes access)) 0 (loop_factors loops) paths.levels.items
 
@@ -61,14 +61,14 @@ greatest_key (l ∷ ls) = (l.factor - 1) * l.share + greatest_key ls
 abbrev pub HasFewKeys : List Level → Type 0
 HasFewKeys levels = greatest_key levels ≤ most_copies * most_copies
 
-abbrev pub copy_in : List Level → (level number : ℕ) → ℕ
-copy_in [] level number = 0
-copy_in (l ∷ ls) level number = if level == 0 then (number / l.stride) % l.factor else copy_in ls (level - 1) number
+abbrev pub copy_of_level : List Level → (level number : ℕ) → ℕ
+copy_of_level [] level number = 0
+copy_of_level (l ∷ ls) level number = if level == 0 then (number / l.stride) % l.factor else copy_of_level ls (level - 1) number
 
 -- the bank that lanes tell of the path of a number
 abbrev pub bank_of_lanes : List Level → List Lane → (number : ℕ) → ℕ
 bank_of_lanes levels [] number = 0
-bank_of_lanes levels (l ∷ ls) number = (unsigned_abs (pos (l.low + copy_in levels l.level number) +ℤ l.offset) % l.banks) * l.times + bank_of_lanes levels ls number
+bank_of_lanes levels (l ∷ ls) number = (unsigned_abs (pos (l.low + copy_of_level levels l.level number) +ℤ l.offset) % l.banks) * l.times + bank_of_lanes levels ls number
 
 -- lanes have banks, and few together
 abbrev pub all_lane_banks : List Lane → ℕ
@@ -91,14 +91,14 @@ pub record IsReach (tree : Tree) (loops : List Counter) (dims : List Dim) (acces
       → own + bank_of_lanes levels lanes number ≡ bank_at_path tree dims (source_of loops writes access) (path_of_number (loop_factors loops) number)
 
 -- the same of indices
-pub record AreLanes (tree : Tree) (loops : List Counter) (dims : List Dim) (indices : List Expr) (lanes : List Lane) : Type 0 where
+pub record AreIndexLanes (tree : Tree) (loops : List Counter) (dims : List Dim) (indices : List Expr) (lanes : List Lane) : Type 0 where
   pub few : HasFewBanks lanes
   pub each : (picks : ℕ → Bool) (levels : List Level) (number : ℕ) → AreLevels picks 0 (loop_factors loops) levels
       → bank_of_lanes levels lanes number ≡ bank_of dims (indices_in (loops_in tree) loops (path_of_number (loop_factors loops) number) (terms (map term_seen indices)))
 
 -- an access by the numbers of its paths: its loops, and the lanes and the bank that tell what it reaches
-pub record Reaches (scopes : List (Option Scope)) (tree : Tree) (loops : List Counter) (dims : List Dim) (access : Expr) (writes : Bool) (reach : Reach) : Type 0 where
-  pub paths : ArePaths scopes loops access writes reach.paths
+pub record IsAccessReach (scopes : List (Option Scope)) (tree : Tree) (loops : List Counter) (dims : List Dim) (access : Expr) (writes : Bool) (reach : Reach) : Type 0 where
+  pub paths : AreAccessPaths scopes loops access writes reach.paths
   pub lanes : IsReach tree loops dims access reach.lanes.items reach.own
 
 -- an access whose copies are counted, as the definitions know it
@@ -110,18 +110,18 @@ abbrev pub IsReachOf : Tree → Copied → List Lane → (own : ℕ) → Type 0
 IsReachOf tree c lanes own = IsReach tree c.loops.now c.dims.now c.access.now lanes own
 
 abbrev pub CopiesReach : List (Option Scope) → Tree → Copied → Reach → Type 0
-CopiesReach scopes tree c reach = Reaches scopes tree c.loops.now c.dims.now c.access.now c.writes reach
+CopiesReach scopes tree c reach = IsAccessReach scopes tree c.loops.now c.dims.now c.access.now c.writes reach
 
 -- the bank that an access reaches at the path of a number, and the number of its key there
-abbrev pub bank_by : Reach → (number : ℕ) → ℕ
-bank_by reach number = reach.own + bank_of_lanes reach.paths.levels.items reach.lanes.items number
+abbrev pub bank_at_path_number : Reach → (number : ℕ) → ℕ
+bank_at_path_number reach number = reach.own + bank_of_lanes reach.paths.levels.items reach.lanes.items number
 
 abbrev pub key_by : Reach → (number : ℕ) → ℕ
 key_by reach number = key_of_levels reach.paths.levels.items number
 
 -- both can be told of each path
 pub record TellsPaths (reach : Reach) : Type 0 where
-  pub spread : AllByRecursion IsSpread reach.paths.levels.items
+  pub spread : AllByRecursion IsSpreadLevel reach.paths.levels.items
   pub keys : HasFewKeys reach.paths.levels.items
   pub below : (number : ℕ) → key_by reach number < reach.paths.count
   pub lanes : HasFewBanks reach.lanes.items
@@ -145,7 +145,7 @@ abbrev pub IsPast : Seen → Type 0
 IsPast seen = (pair : ℕ) → table_at seen.moments.items pair ≤ seen.moment
 
 -- a pair is seen, and was not seen at this moment before
-pub record Sees (old new : Seen) (pair : ℕ) (first : Bool) : Type 0 where
+pub record SeesPair (old new : Seen) (pair : ℕ) (first : Bool) : Type 0 where
   pub told : first ≡ not (table_at old.moments.items pair == old.moment)
   pub seen : table_at new.moments.items ≡ with_number (table_at old.moments.items) pair old.moment
   pub same : new.moment ≡ old.moment
@@ -156,11 +156,11 @@ pub record IsMarked (old new : Seen) (pair : ℕ) : Type 0 where
   pub same : new.moment ≡ old.moment
 
 -- a bank's count rises where the pair was not seen at this moment
-abbrev pub counted_at : (seen : Bool) → List ℕ → (bank : ℕ) → List ℕ
-counted_at seen counts bank = if seen then counts else slice_set counts bank (slice_index counts bank + 1)
+abbrev pub bank_counts_raised : (seen : Bool) → List ℕ → (bank : ℕ) → List ℕ
+bank_counts_raised seen counts bank = if seen then counts else slice_set counts bank (slice_index counts bank + 1)
 
-abbrev pub IsCounted : Seen → (old new : Vec ℕ Global) → (bank pair : ℕ) → Type 0
-IsCounted seen old new bank pair = new.items ≡ counted_at (table_at seen.moments.items pair == seen.moment) old.items bank
+abbrev pub IsPairCounted : Seen → (old new : Vec ℕ Global) → (bank pair : ℕ) → Type 0
+IsPairCounted seen old new bank pair = new.items ≡ bank_counts_raised (table_at seen.moments.items pair == seen.moment) old.items bank
 
 -- Counts.
 
@@ -168,10 +168,10 @@ abbrev pub same_number : ℕ → ℕ → Bool
 same_number a b = a == b
 
 -- with how many keys so many paths, from that of a number on, reach a bank
-abbrev pub keys_from : Reach → (from many bank : ℕ) → ℕ
-keys_from reach from many bank = distinct_count same_number (map (key_by reach) (filter (λ number. bank_by reach number == bank) (each_below (λ k. from + k) many)))
+abbrev pub key_count_from : Reach → (from many bank : ℕ) → ℕ
+key_count_from reach from many bank = distinct_count same_number (map (key_by reach) (filter (λ number. bank_at_path_number reach number == bank) (each_below (λ k. from + k) many)))
 
 -- the same of each of so many banks
-pub record AreCounts (reach : Reach) (from many banks : ℕ) (counts : List ℕ) : Type 0 where
+pub record AreKeyCounts (reach : Reach) (from many banks : ℕ) (counts : List ℕ) : Type 0 where
   pub long : length counts ≡ banks
-  pub each : (bank : ℕ) → bank < banks → slice_index counts bank ≡ keys_from reach from many bank
+  pub each : (bank : ℕ) → bank < banks → slice_index counts bank ≡ key_count_from reach from many bank

@@ -13,8 +13,8 @@ least [] slot now = now
 least (mark ∷ log) slot now = if mark.slot == slot then min mark.left (least log slot now) else least log slot now
 
 -- each mark is of one of so many slots
-abbrev pub AreMarks : ℕ → List Mark → Type 0
-AreMarks slots log = (i : ℕ) (mark : Mark) → slice_get log i ≡ Some mark → mark.slot < slots
+abbrev pub AreSlotMarks : ℕ → List Mark → Type 0
+AreSlotMarks slots log = (i : ℕ) (mark : Mark) → slice_get log i ≡ Some mark → mark.slot < slots
 
 -- what is left now of the slots of a log
 abbrev pub marks_now : List ℕ → List Mark → List Mark
@@ -34,7 +34,7 @@ AreBegun log old new = (m : ℕ) → slice_index new m ≡ at_begin log m (slice
 
 -- where a log's marks were of these slots, they are
 abbrev pub StaysOfSlots : (slots : ℕ) → (old new : List Mark) → Type 0
-StaysOfSlots slots old new = AreMarks slots old → AreMarks slots new
+StaysOfSlots slots old new = AreSlotMarks slots old → AreSlotMarks slots new
 
 -- what is told of a slot by a mark, where it is of the slot, and by the mark at a place
 abbrev pub LeftIf : Mark → (slot : ℕ) → Option ℕ → Type 0
@@ -48,9 +48,9 @@ LeftAt marks place slot (Some left) = slice_get marks place ≡ Some (record { s
 -- a low more, or a lower one in the place of one of its slot: each slot has the least that both say
 pub record NotesLow (old new : List Mark) (low : Mark) : Type 0 where
   pub noted : (m x : ℕ) → least new m x ≡ least (old ++ low ∷ []) m x
-  pub marks : (n : ℕ) → low.slot < n → AreMarks n old → AreMarks n new
+  pub marks : (n : ℕ) → low.slot < n → AreSlotMarks n old → AreSlotMarks n new
 
 -- the same of what is left now of the slots of a log
 pub record NotesLows (left : List ℕ) (log old new : List Mark) : Type 0 where
   pub noted : (m x : ℕ) → least new m x ≡ least (old ++ marks_now left log) m x
-  pub marks : (n : ℕ) → AreMarks n log → AreMarks n old → AreMarks n new
+  pub marks : (n : ℕ) → AreSlotMarks n log → AreSlotMarks n old → AreSlotMarks n new

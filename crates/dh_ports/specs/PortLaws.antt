@@ -20,11 +20,11 @@ use Rattle.dh_events.specs.Noted.{all_seen}
 use Rattle.dh_ports.specs.declared.levels.Step.{Step}
 use Rattle.dh_ports.specs.declared.levels.Step.TheVariants as step
 use Rattle.dh_ports.specs.Claims.{moves_from}
-use Rattle.dh_ports.specs.Courses.{before_at, count, Ties}
+use Rattle.dh_ports.specs.Courses.{before_at, access_count, Ties}
 use Rattle.dh_ports.specs.Expanded.{all_taken, expand, steps_before, AreTaking}
-use Rattle.dh_ports.specs.Levels.{Level, lefts_of}
+use Rattle.dh_ports.specs.Levels.{Level, left_before_each}
 use Rattle.dh_ports.specs.Scanned.{spent_place, FindsLate, FindsShared}
-use Rattle.dh_ports.specs.Spent.{Spends}
+use Rattle.dh_ports.specs.Spent.{AccessOverspends}
 use Rattle.dh_ports.specs.Told.{IsToldBefore}
 use Rattle.dh_ports.specs.Wholes.{loops_known, of_access, touched, AreEventsOf, TakesCharge, TellsLate, TellsLoops, TellsPhases, TellsShared, TellsSpent}
 use Rattle.dh_ports.specs.WritesFound.{Meeting}
@@ -35,7 +35,7 @@ IncidentsTie = (charge stages : ℕ → ℕ) (first : ℕ) (round : Option ℕ) 
 
 -- where a charged access finds fewer ports than it needs and none before it does, ports are spent there
 abbrev pub FirstSpendingIsTold : Type 0
-FirstSpendingIsTold = (p : Program) (k : ℕ) (place : Place) → place_in p k ≡ Some place → In k (meets_in p) → Spends p k → ((x : ℕ) → x < k → Spends p x → ⊥) → PortsSpent p place
+FirstSpendingIsTold = (p : Program) (k : ℕ) (place : Place) → place_in p k ≡ Some place → In k (meets_in p) → AccessOverspends p k → ((x : ℕ) → x < k → AccessOverspends p x → ⊥) → PortsSpent p place
 
 -- an access without a charge finds one up to it where a charged access before it may meet it, and only there
 abbrev pub ChargesTellMeetings : Type 0
@@ -47,8 +47,8 @@ MeetingsAreCharged = (charge : ℕ → ℕ) (t : Meets) (k : ℕ) → Distinct t
 -- before a step of an access is left of a slot what its course leaves there, where the access took nothing of it before
 abbrev pub StepsFollowCourses : Type 0
 StepsFollowCourses =
-    (f : ℕ → List Step) → ((k : ℕ) → AreTaking (f k)) → (slot n : ℕ) (levels : ℕ → Level) (xs : List PortEvent) (k j takes : ℕ) → n ≤ k → k < n + count xs → slice_get (f k) j ≡ Some (step.Access slot takes) → all_taken slot (take j (f k)) ≡ 0
-    → slice_get (lefts_of levels (expand f n xs)) (steps_before f n xs k + j) ≡ Some (before_at (λ k. all_taken slot (f k)) n (levels slot) xs k)
+    (f : ℕ → List Step) → ((k : ℕ) → AreTaking (f k)) → (slot n : ℕ) (levels : ℕ → Level) (xs : List PortEvent) (k j takes : ℕ) → n ≤ k → k < n + access_count xs → slice_get (f k) j ≡ Some (step.Access slot takes) → all_taken slot (take j (f k)) ≡ 0
+    → slice_get (left_before_each levels (expand f n xs)) (steps_before f n xs k + j) ≡ Some (before_at (λ k. all_taken slot (f k)) n (levels slot) xs k)
 
 -- the accesses of a command's incidents are those of its events, in order
 abbrev pub IncidentsTouchAll : Type 0

@@ -7,11 +7,11 @@ use Rattle.dh_ports.specs.declared.moves.Move.TheVariants as move
 use Rattle.dh_ports.specs.declared.moves.Run.{Run}
 
 -- the number of the bank that a move claims; 0 where it claims none
-abbrev pub slot_of : Move → ℕ
-slot_of (move.Claim event slot keys) = slot
-slot_of move.Begin = 0
-slot_of move.Next = 0
-slot_of move.End = 0
+abbrev pub claimed_slot : Move → ℕ
+claimed_slot (move.Claim event slot keys) = slot
+claimed_slot move.Begin = 0
+claimed_slot move.Next = 0
+claimed_slot move.End = 0
 
 -- the move that does the same to another bank
 abbrev pub at_slot : Move → (slot : ℕ) → Move
@@ -21,13 +21,13 @@ at_slot move.Next slot = move.Next
 at_slot move.End slot = move.End
 
 -- the same to each of so many banks in a row
-abbrev pub row_of : Move → (slot many : ℕ) → List Move
-row_of m slot zero = []
-row_of m slot (suc many) = at_slot m slot ∷ row_of m (suc slot) many
+abbrev pub moves_in_row : Move → (slot many : ℕ) → List Move
+moves_in_row m slot zero = []
+moves_in_row m slot (suc many) = at_slot m slot ∷ moves_in_row m (suc slot) many
 
 -- a move, and the same to the banks behind its own and in front of an end
 abbrev pub row_to : Move → (end : ℕ) → List Move
-row_to m end = row_of m (slot_of m) (end - slot_of m)
+row_to m end = moves_in_row m (claimed_slot m) (end - claimed_slot m)
 
 -- the moves of a run, and of runs
 abbrev pub moves_of_run : Run → List Move
@@ -57,8 +57,8 @@ claims_so move.End event keys = false
 
 -- a bank stands behind those of a run
 abbrev pub is_next : Run → (slot : ℕ) → Bool
-is_next r slot = nat_lt (slot_of r.first) r.end && (r.end == slot)
+is_next r slot = nat_lt (claimed_slot r.first) r.end && (r.end == slot)
 
 -- the claim of a bank goes on with a run
-abbrev pub goes_on : Run → (event slot keys : ℕ) → Bool
-goes_on r event slot keys = claims_so r.first event keys && is_next r slot
+abbrev pub claim_extends_run : Run → (event slot keys : ℕ) → Bool
+claim_extends_run r event slot keys = claims_so r.first event keys && is_next r slot

@@ -12,7 +12,7 @@ use Rattle.dh_events.specs.declared.classes.Key.{Key}
 use Rattle.dh_events.specs.declared.events.Event.{Event}
 use Rattle.dh_events.specs.declared.events.Event.TheVariants as event
 use Rattle.dh_events.specs.Accesses.{entity_in}
-use Rattle.dh_ports.specs.Claims.{ports_in}
+use Rattle.dh_ports.specs.Claims.{bank_ports_in}
 use Rattle.dh_events.specs.Classes.{KeysAreDistinct}
 use Rattle.dh_ports.specs.Levels.{lefts_from}
 use Rattle.dh_events.specs.Noted.{all_seen}
@@ -51,40 +51,40 @@ spending_step shared move.Next = step.Next
 spending_step shared move.End = step.End
 
 -- a step takes more than is left
-abbrev pub is_beyond : Step → (left : ℕ) → Bool
-is_beyond (step.Access slot takes) left = nat_lt left takes
-is_beyond step.Other left = false
-is_beyond step.Begin left = false
-is_beyond step.Next left = false
-is_beyond step.End left = false
-is_beyond step.Back left = false
+abbrev pub step_exceeds : Step → (left : ℕ) → Bool
+step_exceeds (step.Access slot takes) left = nat_lt left takes
+step_exceeds step.Other left = false
+step_exceeds step.Begin left = false
+step_exceeds step.Next left = false
+step_exceeds step.End left = false
+step_exceeds step.Back left = false
 
 -- Places.
 
 -- the place of an incident that is an access
-abbrev pub place_of : PortEvent → Option Place
-place_of (touches access writes site) = Some (term_place access)
-place_of (assigned entity) = None
-place_of arm_begins = None
-place_of arm_ends = None
-place_of begins = None
-place_of next = None
-place_of ends = None
+abbrev pub event_place : PortEvent → Option Place
+event_place (touches access writes site) = Some (term_place access)
+event_place (assigned entity) = None
+event_place arm_begins = None
+event_place arm_ends = None
+event_place begins = None
+event_place next = None
+event_place ends = None
 
-abbrev pub place_found : Option PortEvent → Option Place
-place_found None = None
-place_found (Some x) = place_of x
+abbrev pub maybe_event_place : Option PortEvent → Option Place
+maybe_event_place None = None
+maybe_event_place (Some x) = event_place x
 
 -- the place of the access of a move
-abbrev pub place_in : List PortEvent → Move → Option Place
-place_in xs (move.Claim event slot keys) = place_found (slice_get xs event)
-place_in xs move.Begin = None
-place_in xs move.Next = None
-place_in xs move.End = None
+abbrev pub move_place : List PortEvent → Move → Option Place
+move_place xs (move.Claim event slot keys) = maybe_event_place (slice_get xs event)
+move_place xs move.Begin = None
+move_place xs move.Next = None
+move_place xs move.End = None
 
 -- the place of the first move whose step takes more than is left
 abbrev pub first_beyond : List PortEvent → List Move → List Step → List ℕ → Option Place
-first_beyond xs (m ∷ ms) (s ∷ ss) (l ∷ ls) = if is_beyond s l then place_in xs m else first_beyond xs ms ss ls
+first_beyond xs (m ∷ ms) (s ∷ ss) (l ∷ ls) = if step_exceeds s l then move_place xs m else first_beyond xs ms ss ls
 first_beyond xs _ _ _ = None
 
 -- Order.
@@ -103,7 +103,7 @@ late_at None = []
 late_at (Some place) = breach rule.ReadAfterWrite place ∷ []
 
 abbrev pub all_late : List PortEvent → List Move → List Step → List ℕ → List Breach
-all_late xs (m ∷ ms) (s ∷ ss) (l ∷ ls) = if is_late s l then late_at (place_in xs m) ++ all_late xs ms ss ls else all_late xs ms ss ls
+all_late xs (m ∷ ms) (s ∷ ss) (l ∷ ls) = if is_late s l then late_at (move_place xs m) ++ all_late xs ms ss ls else all_late xs ms ss ls
 all_late xs _ _ _ = []
 
 -- Classes.
@@ -190,25 +190,25 @@ IsWritten known (Some event.Begins) bank = Unit {0}
 IsWritten known (Some event.Next) bank = Unit {0}
 IsWritten known (Some event.Ends) bank = Unit {0}
 
-abbrev pub IsNoted : List Key → List Event → Move → Type 0
-IsNoted known events (move.Claim event bank keys) = IsWritten known (slice_get events event) bank
-IsNoted known events move.Begin = Unit {0}
-IsNoted known events move.Next = Unit {0}
-IsNoted known events move.End = Unit {0}
+abbrev pub IsNotedClaim : List Key → List Event → Move → Type 0
+IsNotedClaim known events (move.Claim event bank keys) = IsWritten known (slice_get events event) bank
+IsNotedClaim known events move.Begin = Unit {0}
+IsNotedClaim known events move.Next = Unit {0}
+IsNotedClaim known events move.End = Unit {0}
 
 -- the phase of an event that is an access, and of the claim of one
-abbrev pub phase_at : Option Event → ℕ
-phase_at None = 0
-phase_at (Some (event.Touch writes phase round access element newest)) = phase
-phase_at (Some (event.Assigned entity)) = 0
-phase_at (Some event.ArmBegins) = 0
-phase_at (Some event.ArmEnds) = 0
-phase_at (Some event.Begins) = 0
-phase_at (Some event.Next) = 0
-phase_at (Some event.Ends) = 0
+abbrev pub event_phase : Option Event → ℕ
+event_phase None = 0
+event_phase (Some (event.Touch writes phase round access element newest)) = phase
+event_phase (Some (event.Assigned entity)) = 0
+event_phase (Some event.ArmBegins) = 0
+event_phase (Some event.ArmEnds) = 0
+event_phase (Some event.Begins) = 0
+event_phase (Some event.Next) = 0
+event_phase (Some event.Ends) = 0
 
 abbrev pub move_phase : List Event → Move → ℕ
-move_phase events (move.Claim event bank keys) = phase_at (slice_get events event)
+move_phase events (move.Claim event bank keys) = event_phase (slice_get events event)
 move_phase events move.Begin = 0
 move_phase events move.Next = 0
 move_phase events move.End = 0
@@ -230,7 +230,7 @@ HasRead events phase = (i : ℕ) × IsReadAt (slice_get events i) phase
 
 -- where one does, the claim of a write is noted
 abbrev pub IsNotedFor : List Key → List Event → Move → Type 0
-IsNotedFor known events m = HasRead events (move_phase events m) → IsNoted known events m
+IsNotedFor known events m = HasRead events (move_phase events m) → IsNotedClaim known events m
 
 abbrev pub IsOrdering : List Key → List Event → Move → Step → Type 0
 IsOrdering known events (move.Claim event bank keys) s = ClaimOrdersAt known (slice_get events event) bank s
@@ -255,12 +255,12 @@ pub record FindsLate (events : List Event) (moves : List Move) (late : List Brea
 -- the place of the first access that takes more ports than are left
 abbrev pub spent_place : List MemEntry → List Event → (shared : List Bool) → List Move → Option Place
 spent_place table events shared moves =
-    first_beyond (all_seen events) moves (map (spending_step shared) moves) (lefts_from (ports_in table) (map (spending_step shared) moves))
+    first_beyond (all_seen events) moves (map (spending_step shared) moves) (lefts_from (bank_ports_in table) (map (spending_step shared) moves))
 
 -- the breach of ports that are spent at a place
-abbrev pub spent_at : Option Place → Option Breach
-spent_at None = None
-spent_at (Some place) = Some (breach rule.PortsSpent place)
+abbrev pub ports_spent_breach : Option Place → Option Breach
+ports_spent_breach None = None
+ports_spent_breach (Some place) = Some (breach rule.PortsSpent place)
 
 -- a claim is of one of so many events
 abbrev pub IsMoveOf : (events : ℕ) → Move → Type 0

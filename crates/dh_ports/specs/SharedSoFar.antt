@@ -6,7 +6,7 @@ use Rattle.dh_events.specs.Classes.{KeysAreDistinct, ExtendsKeys}
 use Rattle.dh_ports.specs.declared.levels.Levels.{Levels}
 use Rattle.dh_ports.specs.declared.levels.Step.{Step}
 use Rattle.dh_ports.specs.declared.sharing.Sharing.{Sharing}
-use Rattle.dh_ports.specs.Levels.{advance, left_before, level_at, lefts_from, lefts_of, IsKept, Turns}
+use Rattle.dh_ports.specs.Levels.{advance, left_before, level_at, lefts_from, left_before_each, LevelsKept, Turns}
 use Rattle.dh_ports.specs.Scanned.{all_share, shares, AreSharing, FindsShared, IsSharing}
 
 -- whether an event shares, as its step looks at what is left before it is taken
@@ -16,7 +16,7 @@ pub record SharesNext (old_known known : List Key) (old new : Levels) (e : Event
   pub extends : ExtendsKeys old_known known
   pub few : length known ≤ length old_known + 1
   pub told : flag ≡ shares step (left_before step (λ s. level_at old s))
-  pub kept : IsKept new
+  pub kept : LevelsKept new
   pub stepped : Turns old new (λ s l. advance s step l)
 
 -- Which of these events share, of so many classes at most: with the flags so far those of what stands behind are found
@@ -25,8 +25,8 @@ pub record SharesSoFar (classes : ℕ) (known : List Key) (events : List Event) 
   pub steps : List Step
   pub sharing : AreSharing known events steps
   pub few : length known ≤ length events
-  pub kept : IsKept levels
-  pub told : (rest : List Step) → flags ++ all_share rest (lefts_of (λ s. level_at levels s) rest) ≡ all_share (steps ++ rest) (lefts_from (replicate classes 1) (steps ++ rest))
+  pub kept : LevelsKept levels
+  pub told : (rest : List Step) → flags ++ all_share rest (left_before_each (λ s. level_at levels s) rest) ≡ all_share (steps ++ rest) (lefts_from (replicate classes 1) (steps ++ rest))
 
 -- what is noted of one event more
 pub record NotesShare (old new : Sharing) (e : Event) : Type 0 where

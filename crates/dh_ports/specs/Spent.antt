@@ -7,7 +7,7 @@ use Rattle.dh_meets.specs.MayMeet.{meets_in}
 use Rattle.dh_meets.specs.Ports.{ports_of_entity}
 
 -- a charged access with which a bank has too few ports
-pub record Spends (p : Program) (k : ℕ) : Type 0 where
+pub record AccessOverspends (p : Program) (k : ℕ) : Type 0 where
   pub memory : ℕ
   pub bank : ℕ
   pub charged : 1 ≤ charge p memory bank k

@@ -13,7 +13,7 @@ use Rattle.dh_ports.specs.declared.keeping.Tally.{Tally}
 use Rattle.dh_ports.specs.Banks.{each_below}
 use Rattle.dh_ports.specs.Carriers.{AreGroupSums}
 use Rattle.dh_ports.specs.Claims.{keys_on}
-use Rattle.dh_ports.specs.Copies.{source_copied, AreCounts, IsPast}
+use Rattle.dh_ports.specs.Copies.{source_copied, AreKeyCounts, IsPast}
 
 -- two accesses reach the same banks with the same keys at the paths of the same numbers
 pub record ReachAlike (one other : Reach) : Type 0 where
@@ -29,7 +29,7 @@ pub record CarryAlike (one other : Carrier) : Type 0 where
 
 -- counts that are kept are those of what is kept with them
 abbrev pub AreCountsKept : Counts → Type 0
-AreCountsKept c = AreCounts c.reach 0 c.many c.banks c.counts.items
+AreCountsKept c = AreKeyCounts c.reach 0 c.many c.banks c.counts.items
 
 -- and that is so many paths that reach so, on so many banks
 pub record AreCountsOf (c : Counts) (reach : Reach) (many banks : ℕ) : Type 0 where
@@ -48,7 +48,7 @@ pub record AreSumsOf (s : Sums) (reach : Reach) (carrier : Carrier) (stride grou
   pub reaches : ReachAlike s.reach reach
   pub carries : CarryAlike s.carrier carrier
 
-pub record IsReady (tally : Tally) : Type 0 where
+pub record IsReadyTally (tally : Tally) : Type 0 where
   pub past : IsPast tally.seen
   pub direct : AreCountsKept tally.direct
   pub kept : AreSums tally.last

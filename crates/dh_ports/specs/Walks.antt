@@ -17,7 +17,7 @@ use Rattle.dh_ports.specs.declared.spending.Walked.{Walked}
 use Rattle.dh_ports.specs.declared.spending.Walked.TheVariants as walked
 use Rattle.dh_ports.specs.Ahead.{IsAhead}
 use Rattle.dh_ports.specs.EventMoves.{moves_known}
-use Rattle.dh_ports.specs.Levels.{IsKept}
+use Rattle.dh_ports.specs.Levels.{LevelsKept}
 use Rattle.dh_ports.specs.Passing.{ComesTo}
 use Rattle.dh_ports.specs.Scanned.{spent_place, IsMoveOf}
 use Rattle.dh_ports.specs.SharedSoFar.{AreShared}
@@ -29,7 +29,7 @@ place_walked (walked.Beyond place) = place
 
 -- while no move took more than was left, what is left is kept
 abbrev pub KeptWhile : Walked → Levels → Type 0
-KeptWhile walked.Past levels = IsKept levels
+KeptWhile walked.Past levels = LevelsKept levels
 KeptWhile (walked.Beyond place) levels = Unit {0}
 
 -- moves come to this behind those that came to that
@@ -42,7 +42,7 @@ abbrev pub SpendsToSoFar : List Event → (shared : List Bool) → (before : Wal
 SpendsToSoFar events shared before old ms after new = (more : List Bool) → SpendsTo (all_seen events) (shared ++ more) before old ms after new
 
 -- all is found of these events
-pub record IsWalked (p : Program) (layout : Layout) (events : List Event) (sharing : Sharing) (lasts : LastWrites) (walked : Walked) : Type 0 where
+pub record EventsAreWalked (p : Program) (layout : Layout) (events : List Event) (sharing : Sharing) (lasts : LastWrites) (walked : Walked) : Type 0 where
   pub distinct : KeysAreDistinct sharing.classes
   pub shared : AreShared events sharing
   pub within : AllByRecursion (IsMoveOf (length events)) (moves_known p layout events)

@@ -19,7 +19,7 @@ use Rattle.dh_events.specs.declared.events.Event.{Event}
 use Rattle.dh_events.specs.declared.events.Site.{Site}
 use Rattle.dh_events.specs.declared.structures.Structure.{Structure}
 use Rattle.dh_events.specs.Accesses.{entity_in, element_in}
-use Rattle.dh_ports.specs.Claims.{base_of, claims_of}
+use Rattle.dh_ports.specs.Claims.{first_bank_of, claims_of}
 use Rattle.dh_events.specs.Elements.{AreReads, no_clocks}
 use Rattle.dh_ports.specs.Expanded.{all_taken}
 use Rattle.dh_events.specs.Incidents.{PortEvent, touches, assigned, arm_begins, arm_ends, begins, next, ends, closed, incidents}
@@ -111,18 +111,18 @@ abbrev pub TellsShared : Program → List Event → List Bool → Type 0
 TellsShared p events flags = (k : ℕ) (flag : Bool) → slice_get (at_touches (all_seen events) flags) k ≡ Some flag → flag ≡ is_some (shared p k)
 
 -- the banks of the memory of a number
-abbrev pub banks_in : Option MemEntry → ℕ
-banks_in None = 0
-banks_in (Some e) = banks_of e.shape.dims
+abbrev pub entry_bank_count : Option MemEntry → ℕ
+entry_bank_count None = 0
+entry_bank_count (Some e) = banks_of e.shape.dims
 
-abbrev pub banks_at : Program → (number : ℕ) → ℕ
-banks_at p number = banks_in (slice_get (table_of p) number)
+abbrev pub memory_bank_count : Program → (number : ℕ) → ℕ
+memory_bank_count p number = entry_bank_count (slice_get (table_of p) number)
 
 -- what an access takes of a bank is its charge: of a memory's bank by the number of its entity and of the bank
 abbrev pub TakesCharge : Program → (flags : List Bool) → (event k : ℕ) → SourceAccess → Type 0
 TakesCharge p flags event k a =
-    (memory number bank : ℕ) → number_in (memories_of p) (Some memory) ≡ Some number → bank < banks_at p number → slice_get (accesses_in (trace p)) k ≡ Some a → slice_get flags event ≡ Some (is_some (shared p k))
-    → all_taken (base_of (table_of p) number + bank) (map (spending_step flags) (claims_of p event a)) ≡ charge p memory bank k
+    (memory number bank : ℕ) → number_in (memories_of p) (Some memory) ≡ Some number → bank < memory_bank_count p number → slice_get (accesses_in (trace p)) k ≡ Some a → slice_get flags event ≡ Some (is_some (shared p k))
+    → all_taken (first_bank_of (table_of p) number + bank) (map (spending_step flags) (claims_of p event a)) ≡ charge p memory bank k
 
 -- the first access that takes too many ports is where ports are spent; where there is none, they are kept
 abbrev pub TellsSpent : Program → Option Place → Type 0

@@ -17,13 +17,13 @@ pub record Meeting (c : ℕ → ℕ) (t : Meets) (k : ℕ) : Type 0 where
   pub meet : Apart t number k → ⊥
 
 -- an access reaches a bank at some path
-abbrev pub can_reach : Program → SourceAccess → (memory bank : ℕ) → Bool
-can_reach p a memory bank = list_any (λ path. reaches p a path memory bank) (paths_of a)
+abbrev pub access_can_reach : Program → SourceAccess → (memory bank : ℕ) → Bool
+access_can_reach p a memory bank = list_any (λ path. reaches p a path memory bank) (paths_of a)
 
 -- what a write of a number charges where it stands in one phase with this read and reaches this bank
 abbrev pub write_of : Program → (memory bank read number : ℕ) → Option SourceAccess → ℕ
 write_of p memory bank read k None = 0
-write_of p memory bank read k (Some e) = if (e.writes && in_one_phase p k read) && can_reach p e memory bank then 1 else 0
+write_of p memory bank read k (Some e) = if (e.writes && in_one_phase p k read) && access_can_reach p e memory bank then 1 else 0
 
 abbrev pub write_charge : Program → (memory bank read : ℕ) → (number : ℕ) → ℕ
 write_charge p memory bank read k = write_of p memory bank read k (slice_get (accesses_in (trace p)) k)
@@ -37,5 +37,5 @@ pub record FindsWrite (p : Program) (place : Place) : Type 0 where
   pub reads : slice_get (accesses_in (trace p)) read ≡ Some later
   pub read_is : later.writes ≡ false
   pub stands : later.place ≡ place
-  pub reached : can_reach p later memory bank ≡ true
+  pub reached : access_can_reach p later memory bank ≡ true
   pub found : 1 ≤ upto (write_charge p memory bank read) read (meets_in p)

@@ -7,9 +7,9 @@ ghost use Rattle.dh_tree.specs.Memories.{memories_of, number_in};
 ghost use Rattle.dh_tree.specs.Seen.{form_seen, program_seen};
 ghost use Rattle.dh_tree.specs.Shapes.{most_banks, IsDim, IsProgramTable};
 ghost use Rattle.dh_meets.specs.Charges.{level_of_loop};
-ghost use Rattle.dh_ports.specs.Banks.{bank_at_path, bank_outside, IsLevel, IsStart};
+ghost use Rattle.dh_ports.specs.Banks.{bank_at_path, bank_outside, IsLevel, IsIndexStart};
 ghost use Rattle.dh_events.specs.Accesses.{entity_in};
-ghost use Rattle.dh_ports.specs.Claims.{ports_in, source_of, AreBases};
+ghost use Rattle.dh_ports.specs.Claims.{bank_ports_in, source_of, AreBases};
 
 use dh_base::NoMemory;
 use dh_shape::{IndexKind, classify};
@@ -47,7 +47,7 @@ pub fn bank_bases(alloc: Global, table: &[MemEntry]) -> Result<Vec<usize>, NoMem
 /// The ports of each bank of all memories.
 pub fn bank_ports(alloc: Global, table: &[MemEntry]) -> Result<Vec<usize>, NoMemory>
     requires table { IsProgramTable table.now }
-    ensures { IfOk result (λ ports. ports.items ≡ ports_in table.now) }
+    ensures { IfOk result (λ ports. ports.items ≡ bank_ports_in table.now) }
 {
     let mut ports = Vec::new(alloc);
     for entry in table {
@@ -93,7 +93,7 @@ fn counting(low: u64, offset: i128, iterator: u32) -> Start
 
 /// What an index is in the first turn.
 pub fn start_of(typed: &Typed, index: &Expr) -> Start
-    ensures { IsStart typed.now index.now result }
+    ensures { IsIndexStart typed.now index.now result }
 {
     match classify(typed, index) {
         IndexKind::Constant(value) => fixed(value),

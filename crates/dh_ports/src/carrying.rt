@@ -31,7 +31,7 @@ pub struct Carrier {
 
 /// Whether a view is a shift.
 fn is_shift(view: &ViewMap) -> bool
-    ensures { result ≡ definitions.is_shift view.now.sort }
+    ensures { result ≡ definitions.is_shift_sort view.now.sort }
 {
     match view.sort {
         ViewSort::Shrink => false,

@@ -31,7 +31,7 @@ use std::alloc::Global;
 
 /// The breach of ports that are spent at a place.
 fn spent_at(place: Option<Place>) -> Option<Breach>
-    ensures { result ≡ scanned.spent_at place }
+    ensures { result ≡ scanned.ports_spent_breach place }
 {
     match place {
         Some(place) => Some(Breach {

@@ -4,7 +4,7 @@ ghost use Rattle.std.specs.Prelude.{◌≡◌, ◌<◌, ◌≤◌, ◌+◌, ◌*
 ghost use Rattle.std.specs.List.{AllByRecursion};
 ghost use Rattle.dh_tree.specs.Elements.{banks_of};
 ghost use Rattle.dh_tree.specs.Shapes.{most_banks, IsDim};
-ghost use Rattle.dh_ports.specs.Copies.{key_of_levels, ArePaths, AreLanes, CopiesReach, IsReachOf, IsSpread};
+ghost use Rattle.dh_ports.specs.Copies.{key_of_levels, AreAccessPaths, AreIndexLanes, CopiesReach, IsReachOf, IsSpreadLevel};
 ghost use Rattle.dh_ports.specs.Copies as definitions;
 ghost use Rattle.dh_base.specs.Limits.{most_copies};
 
@@ -66,7 +66,7 @@ fn paths_in(
     writes: bool,
 ) -> Result<Paths, NoMemory>
     requires few { definitions.copies_round loops.now ≤ most_copies }
-    ensures { IfOk result (λ paths. ArePaths scopes.now loops.now access.now writes paths) }
+    ensures { IfOk result (λ paths. AreAccessPaths scopes.now loops.now access.now writes paths) }
 {
     let mut levels = Vec::new(alloc);
     let mut count: u64 = 1;
@@ -90,7 +90,7 @@ fn paths_in(
 
 /// The copy of a loop at the path of a number.
 fn copy_at(level: Level, number: u64) -> u64
-    requires spread { IsSpread level }
+    requires spread { IsSpreadLevel level }
     ensures { result ≡ (number / level.stride) % level.factor }
 {
     number / level.stride % level.factor
@@ -98,7 +98,7 @@ fn copy_at(level: Level, number: u64) -> u64
 
 /// The number of the key of the path of a number.
 pub fn key_at(levels: &[Level], number: u64) -> u64
-    requires spread { AllByRecursion IsSpread levels.now }
+    requires spread { AllByRecursion IsSpreadLevel levels.now }
     requires few { definitions.HasFewKeys levels.now }
     ensures { result ≡ key_of_levels levels.now number }
 {
@@ -119,7 +119,7 @@ fn lanes_of(
 ) -> Result<Vec<Lane>, NoMemory>
     requires dims { AllByRecursion IsDim dims.now }
     requires few { banks_of dims.now ≤ most_banks }
-    ensures { IfOk result (λ lanes. AreLanes typed.now loops.now dims.now indices.now lanes.items) }
+    ensures { IfOk result (λ lanes. AreIndexLanes typed.now loops.now dims.now indices.now lanes.items) }
 {
     let mut lanes = Vec::new(alloc);
     let mut times: u64 = 1;
@@ -142,7 +142,7 @@ fn lanes_of(
 
 /// The bank that lanes tell at the path of a number.
 pub fn bank_at(lanes: &[Lane], levels: &[Level], number: u64) -> u64
-    requires spread { AllByRecursion IsSpread levels.now }
+    requires spread { AllByRecursion IsSpreadLevel levels.now }
     requires few { definitions.HasFewBanks lanes.now }
     ensures { result ≡ definitions.bank_of_lanes levels.now lanes.now number }
 {

@@ -6,8 +6,8 @@ ghost use Rattle.dh_tree.specs.Elements.{banks_of};
 ghost use Rattle.dh_tree.specs.Seen.{program_seen};
 ghost use Rattle.dh_tree.specs.Shapes.{most_banks, IsDim};
 ghost use Rattle.dh_meaning.specs.Ways.{all_bindings_of};
-ghost use Rattle.dh_ports.specs.Copies.{copies_round, AreCounts, IsCounted, IsMarked, IsPast, IsUnseen, Sees, TellsPaths};
-ghost use Rattle.dh_ports.specs.Tallies.{IsReady, KeepsKeys};
+ghost use Rattle.dh_ports.specs.Copies.{copies_round, AreKeyCounts, IsPairCounted, IsMarked, IsPast, IsUnseen, SeesPair, TellsPaths};
+ghost use Rattle.dh_ports.specs.Tallies.{IsReadyTally, KeepsKeys};
 ghost use Rattle.dh_events.specs.Scopes.{AreScopes};
 ghost use Rattle.dh_base.specs.Limits.{most_copies};
 
@@ -63,7 +63,7 @@ impl Seen {
 
     /// Sees a pair by its number, and tells whether it was not seen since the present moment began.
     fn see(&mut self, pair: u32) -> Result<bool, NoMemory>
-        ensures { IfOk result (λ new. Sees self.old self.new pair new) }
+        ensures { IfOk result (λ new. SeesPair self.old self.new pair new) }
     {
         let moment = self.moment;
         if get_at(self.moments.as_slice(), pair) == moment {
@@ -102,7 +102,7 @@ fn count_pair(
 ) -> Result<(), NoMemory>
     requires within { bank < length counts.old.items }
     requires few { slice_index counts.old.items bank ≤ most_copies }
-    ensures counts { OnOk result (IsCounted seen.old counts.old counts.new bank pair) }
+    ensures counts { OnOk result (IsPairCounted seen.old counts.old counts.new bank pair) }
     ensures seen { OnOk result (IsMarked seen.old seen.new pair) }
 {
     let new = seen.see(pair)?;
@@ -136,7 +136,7 @@ pub fn count_paths(
     requires few { banks ≤ most_banks }
     requires unseen { IsUnseen seen.old }
     requires none { counts.old.items ≡ replicate banks 0 }
-    ensures counts { OnOk result (AreCounts reach.now from many banks counts.new.items) }
+    ensures counts { OnOk result (AreKeyCounts reach.now from many banks counts.new.items) }
     ensures past { OnOk result (IsPast seen.new) }
 {
     let levels = reach.paths.levels.as_slice();
@@ -160,10 +160,10 @@ fn keep_counts(alloc: Global, tally: &mut Tally, reach: Reach, banks: u64) -> Re
     requires tells { 1 ≤ reach.paths.count → TellsPaths reach }
     requires range { reach.paths.count ≤ most_copies }
     requires few { banks ≤ most_banks }
-    requires past { IsReady tally.old }
-    ensures counts { OnOk result (AreCounts reach 0 reach.paths.count
+    requires past { IsReadyTally tally.old }
+    ensures counts { OnOk result (AreKeyCounts reach 0 reach.paths.count
         banks tally.new.direct.counts.items) }
-    ensures past { OnOk result (IsReady tally.new) }
+    ensures past { OnOk result (IsReadyTally tally.new) }
 {
     let many = reach.paths.count;
     if tally.direct.are_of(&reach, many, banks) {
@@ -189,9 +189,9 @@ pub fn keys_reaching(
     requires banks { copied.banks ≡ banks_of copied.dims.now }
     requires copies { copies_round copied.loops.now ≤ most_copies }
     requires scopes { AreScopes (all_bindings_of (program_seen typed.now)) scopes.now }
-    requires past { IsReady tally.old }
+    requires past { IsReadyTally tally.old }
     ensures counts { OnOk result (KeepsKeys (program_seen typed.now) copied.entry tally.new) }
-    ensures past { OnOk result (IsReady tally.new) }
+    ensures past { OnOk result (IsReadyTally tally.new) }
 {
     let reach = reach_in(alloc, typed, scopes, copied)?;
     keep_counts(alloc, tally, reach, copied.banks)

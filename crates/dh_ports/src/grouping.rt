@@ -12,8 +12,8 @@ ghost use Rattle.dh_base.specs.Limits.{most_copies};
 ghost use Rattle.dh_ways.specs.Seen.{way_seen};
 ghost use Rattle.dh_events.specs.Scopes.{AreScopes};
 ghost use Rattle.dh_ports.specs.Carriers.{AddsCarried, AddsFew, AreGroupSums, Carries, HasSourcesBelow};
-ghost use Rattle.dh_ports.specs.Copies.{copies_round, AreCounts, IsPast, TellsPaths};
-ghost use Rattle.dh_ports.specs.Tallies.{IsReady, KeepsCharges};
+ghost use Rattle.dh_ports.specs.Copies.{copies_round, AreKeyCounts, IsPast, TellsPaths};
+ghost use Rattle.dh_ports.specs.Tallies.{IsReadyTally, KeepsCharges};
 
 use crate::carrying::{Carrier, carried_at};
 use crate::copies::{Copied, Reach, reach_in, stride_of};
@@ -50,7 +50,7 @@ fn count_group(
     requires few { banks ≤ most_banks }
     requires long { length counts.old.items ≡ banks }
     requires past { IsPast seen.old }
-    ensures counts { OnOk result (AreCounts reach.now from many banks counts.new.items) }
+    ensures counts { OnOk result (AreKeyCounts reach.now from many banks counts.new.items) }
     ensures past { OnOk result (IsPast seen.new) }
 {
     clear(counts.as_mut_slice());
@@ -117,10 +117,10 @@ fn keep_sums(
     requires range { groups * stride ≤ most_copies }
     requires few { carrier.now.banks ≤ most_banks }
     requires within { HasSourcesBelow carrier.now carrier.now.banks }
-    requires past { IsReady tally.old }
+    requires past { IsReadyTally tally.old }
     ensures sums { OnOk result (AreGroupSums reach carrier.now
         stride groups tally.new.last.sums.items) }
-    ensures past { OnOk result (IsReady tally.new) }
+    ensures past { OnOk result (IsReadyTally tally.new) }
 {
     if tally.last.are_of(&reach, carrier, stride, groups) {
         return Ok(());
@@ -145,10 +145,10 @@ pub fn keys_through(
     requires copies { copies_round copied.loops.now ≤ most_copies }
     requires scopes { AreScopes (all_bindings_of (program_seen typed.now)) scopes.now }
     requires carries { Carries (way_seen way.now) carrier.now }
-    requires past { IsReady tally.old }
+    requires past { IsReadyTally tally.old }
     ensures counts { OnOk result (KeepsCharges (program_seen typed.now) way.now copied.entry
         carrier.now tally.new) }
-    ensures past { OnOk result (IsReady tally.new) }
+    ensures past { OnOk result (IsReadyTally tally.new) }
 {
     let reach = reach_in(alloc, typed, scopes, copied)?;
     let count = reach.paths.count;

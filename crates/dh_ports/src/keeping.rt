@@ -3,8 +3,8 @@
 
 ghost use Rattle.std.specs.Prelude.{◌≡◌, IfOk, IsTrue, OnOk};
 ghost use Rattle.dh_ports.specs.Carriers.{AreGroupSums};
-ghost use Rattle.dh_ports.specs.Copies.{AreCounts, IsPast};
-ghost use Rattle.dh_ports.specs.Tallies.{AreCountsKept, AreCountsOf, AreSums, AreSumsOf, CarryAlike, IsReady, ReachAlike};
+ghost use Rattle.dh_ports.specs.Copies.{AreKeyCounts, IsPast};
+ghost use Rattle.dh_ports.specs.Tallies.{AreCountsKept, AreCountsOf, AreSums, AreSumsOf, CarryAlike, IsReadyTally, ReachAlike};
 
 use crate::carrying::Carrier;
 use crate::copies::{Lane, Level, Paths, Reach};
@@ -173,7 +173,7 @@ impl Sums {
 impl Tally {
     /// Nothing was counted.
     pub fn new(alloc: Global) -> Tally
-        ensures { IsReady result }
+        ensures { IsReadyTally result }
     {
         Tally {
             seen: Seen::new(alloc),
@@ -184,11 +184,11 @@ impl Tally {
 
     /// Keeps counts in the place of the last ones.
     pub fn keep_direct(&mut self, reach: Reach, many: u64, banks: u64, counts: Vec<usize>)
-        requires are { AreCounts reach 0 many banks counts.items }
+        requires are { AreKeyCounts reach 0 many banks counts.items }
         requires past { IsPast self.old.seen }
         requires kept { AreSums self.old.last }
         ensures counts { self.new.direct.counts.items ≡ counts.items }
-        ensures past { IsReady self.new }
+        ensures past { IsReadyTally self.new }
     {
         self.direct = Counts {
             reach,
@@ -212,7 +212,7 @@ impl Tally {
         requires past { IsPast self.old.seen }
         requires direct { AreCountsKept self.old.direct }
         ensures sums { OnOk result (self.new.last.sums.items ≡ sums.items) }
-        ensures past { OnOk result (IsReady self.new) }
+        ensures past { OnOk result (IsReadyTally self.new) }
     {
         let carrier = same_carrier(alloc, carrier)?;
         self.last = Sums {

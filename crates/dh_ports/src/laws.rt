@@ -10,7 +10,7 @@ ghost use Rattle.dh_tree.specs.PlainTrees.{Program};
 ghost use Rattle.dh_meets.specs.MayMeet.{meets_in};
 ghost use Rattle.dh_meets.specs.Ports.{KeepsPorts, ReadsAfterWrite, IsFirstPortBreach, KeepsPortRules};
 ghost use Rattle.dh_ports.specs.PortLaws.{ChargesTellMeetings, ClaimsAreCharges, FirstSpendingIsTold, IncidentsTie, IncidentsTouchAll, LateReadsAreTold, MeetingsAreCharged, SharedReadsAreFound, SpentPortsAreTold, StepsFollowCourses};
-ghost use Rattle.dh_ports.specs.Spent.{Spends};
+ghost use Rattle.dh_ports.specs.Spent.{AccessOverspends};
 ghost use Rattle.dh_ports.specs.Wholes.{TellsLoops, TellsPhases};
 ghost use Rattle.dh_ports.specs.WritesFound.{FindsWrite};
 
@@ -23,7 +23,7 @@ pub fn incidents_tie()
 /// A program keeps its ports where no charged access finds fewer than it needs; where one does, ports are
 /// spent at the first of them.
 pub fn ports_are_spent_at_charges()
-    ensures kept { (p : Program) → ((k : ℕ) → In k (meets_in p) → Spends p k → ⊥) → KeepsPorts p }
+    ensures kept { (p : Program) → ((k : ℕ) → In k (meets_in p) → AccessOverspends p k → ⊥) → KeepsPorts p }
     ensures spent { FirstSpendingIsTold }
 {}
 

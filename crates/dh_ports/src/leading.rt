@@ -4,7 +4,7 @@ ghost use Rattle.std.specs.Prelude.{◌≡◌, ◌<◌, ◌≤◌, Some, length,
 ghost use Rattle.std.specs.List.{AllByRecursion};
 ghost use Rattle.dh_ways.specs.Kept.{KeptLed};
 ghost use Rattle.dh_ports.specs.Carriers.{AreEach, Follow};
-ghost use Rattle.dh_ports.specs.CarriersMade.{AreMade, IsMadeOf};
+ghost use Rattle.dh_ports.specs.CarriersMade.{AreMadeCarriers, IsMadeCarrier};
 
 use crate::carrying::{Carrier, carrier_behind, carrier_first};
 use dh_base::NoMemory;
@@ -21,9 +21,9 @@ fn carrier_at(
     requires there { place < length ways.now }
     requires follow { AllByRecursion (λ l. Follow l.way) ways.now }
     requires many { place ≤ length each.now }
-    requires made { AreMade ways.now each.now }
-    ensures { IfOk result (λ carrier. (l : KeptLed) → slice_get ways.now place ≡ Some l
-        → IsMadeOf l.way carrier) }
+    requires made { AreMadeCarriers ways.now each.now }
+    ensures { IfOk result (λ made. (l : KeptLed) → slice_get ways.now place ≡ Some l
+        → IsMadeCarrier l.way made) }
 {
     let way = ways.at(place);
     let named = way.view();

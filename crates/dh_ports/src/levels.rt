@@ -1,7 +1,7 @@
 //! What is left of some slots, while steps are taken.
 
 ghost use Rattle.std.specs.Prelude.{◌≡◌, [], ℕ, ◌≤◌, ◌+◌, IfOk, length, slice_index};
-ghost use Rattle.dh_ports.specs.Levels.{level_at, start, taken, begun, kept_back, gone_back, advance, left_before, IsKept, Settles, Turns};
+ghost use Rattle.dh_ports.specs.Levels.{level_at, start, taken, begun, kept_back, gone_back, advance, left_before, LevelsKept, SettlesLevels, Turns};
 
 use crate::marks::{Mark, lower, note_lows, undo};
 use dh_base::NoMemory;
@@ -76,7 +76,7 @@ fn blank(alloc: Global, spare: &mut Vec<Frame>) -> Frame
 impl Levels {
     /// So much is left of each slot, and no part is begun.
     pub fn new(alloc: Global, left: Vec<usize>) -> Levels
-        ensures kept { IsKept result }
+        ensures kept { LevelsKept result }
         ensures starts { (s : ℕ) → level_at result s ≡ start (slice_index left.items s) }
     {
         Levels {
@@ -91,8 +91,8 @@ impl Levels {
     /// Takes so much of a slot, as far as it is there.
     #[inline(never)]
     fn take(&mut self, slot: usize, takes: usize) -> Result<(), NoMemory>
-        requires kept { IsKept self.old }
-        ensures kept { IfOk result (λ _. IsKept self.new) }
+        requires kept { LevelsKept self.old }
+        ensures kept { IfOk result (λ _. LevelsKept self.new) }
         ensures taken { IfOk result (λ _. Turns self.old self.new (λ s l. taken slot takes s l)) }
         ensures few { IfOk result (λ _. length self.new.log.items ≤ length self.old.log.items + 1) }
     {
@@ -109,8 +109,8 @@ impl Levels {
     /// Begins parts.
     #[inline(never)]
     fn begin(&mut self, alloc: Global) -> Result<(), NoMemory>
-        requires kept { IsKept self.old }
-        ensures kept { IfOk result (λ _. IsKept self.new) }
+        requires kept { LevelsKept self.old }
+        ensures kept { IfOk result (λ _. LevelsKept self.new) }
         ensures begun { IfOk result (λ _. Turns self.old self.new (λ s l. begun l)) }
     {
         let Frame { log, lows } = blank(alloc, &mut self.spare);
@@ -126,8 +126,8 @@ impl Levels {
     /// Gives back what the present part took, and notes what it left.
     #[inline(never)]
     fn give_back(&mut self) -> Result<(), NoMemory>
-        requires kept { IsKept self.old }
-        ensures kept { IfOk result (λ _. IsKept self.new) }
+        requires kept { LevelsKept self.old }
+        ensures kept { IfOk result (λ _. LevelsKept self.new) }
         ensures back { IfOk result (λ _. Turns self.old self.new (λ s l. kept_back l)) }
     {
         note_lows(self.left.as_slice(), self.log.as_slice(), &mut self.lows)?;
@@ -139,9 +139,9 @@ impl Levels {
     /// Ends parts of which the last was given back.
     #[inline(never)]
     fn settle(&mut self) -> Result<(), NoMemory>
-        requires kept { IsKept self.old }
-        ensures kept { IfOk result (λ _. IsKept self.new) }
-        ensures settled { IfOk result (λ _. Settles self.old self.new) }
+        requires kept { LevelsKept self.old }
+        ensures kept { IfOk result (λ _. LevelsKept self.new) }
+        ensures settled { IfOk result (λ _. SettlesLevels self.old self.new) }
     {
         let Some(frame) = self.outer.pop() else {
             return Ok(());
@@ -160,8 +160,8 @@ impl Levels {
     /// Ends a part, of which nothing stays.
     #[inline(never)]
     fn back(&mut self) -> Result<(), NoMemory>
-        requires kept { IsKept self.old }
-        ensures kept { IfOk result (λ _. IsKept self.new) }
+        requires kept { LevelsKept self.old }
+        ensures kept { IfOk result (λ _. LevelsKept self.new) }
         ensures gone { IfOk result (λ _. Turns self.old self.new (λ s l. gone_back l)) }
     {
         undo(&mut self.left, self.log.as_slice());
@@ -182,8 +182,8 @@ impl Levels {
     /// Takes a step.
     #[inline(always)]
     pub fn step(&mut self, alloc: Global, step: Step) -> Result<(), NoMemory>
-        requires kept { IsKept self.old }
-        ensures kept { IfOk result (λ _. IsKept self.new) }
+        requires kept { LevelsKept self.old }
+        ensures kept { IfOk result (λ _. LevelsKept self.new) }
         ensures stepped { IfOk result (λ _. Turns self.old self.new (λ s l. advance s step l)) }
     {
         match step {

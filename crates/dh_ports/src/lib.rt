@@ -29,8 +29,10 @@ mod spending;
 mod walking;
 
 pub use accepted::Accepted;
+pub use banks::{bank_count, entity_of, residue_of_copy};
 pub use carrying::{Carrier, carries};
 pub use checking::check_ports;
 pub use laws::port_breaches_are_one;
 pub use leading::carriers_of;
 pub use nesting::nests_of;
+pub use sharing::read_key;

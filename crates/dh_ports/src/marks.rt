@@ -1,7 +1,7 @@
 //! What is left of each of some slots, and marks to come back to.
 
 ghost use Rattle.std.specs.Prelude.{◌≡◌, [], ◌∷◌, ◌<◌, ◌≤◌, ◌==◌, ◌+◌, ◌++◌, Some, IfOk, OnOk, length, min, slice_get, slice_set};
-ghost use Rattle.dh_ports.specs.Logs.{AreBegun, AreLowered, AreMarks, GoesBack, LeftAt, LeftIf, NotesLow, NotesLows, StaysOfSlots};
+ghost use Rattle.dh_ports.specs.Logs.{AreBegun, AreLowered, AreSlotMarks, GoesBack, LeftAt, LeftIf, NotesLow, NotesLows, StaysOfSlots};
 
 use std::alloc::AllocFailed;
 
@@ -102,7 +102,7 @@ pub fn note_lows(
     log: &[Mark],
     lows: &mut Vec<Mark>,
 ) -> Result<(), AllocFailed<Mark>>
-    requires inside { AreMarks (length left.now) log.now }
+    requires inside { AreSlotMarks (length left.now) log.now }
     ensures { IfOk result (λ _. NotesLows left.now log.now lows.old.items lows.new.items) }
 {
     let mut place: usize = 0;
@@ -122,7 +122,7 @@ pub fn note_lows(
 
 /// Gives each slot what a log says was left at its begin.
 fn undo_slice(left: &mut [usize], log: &[Mark])
-    requires inside { AreMarks (length left.old) log.now }
+    requires inside { AreSlotMarks (length left.old) log.now }
     ensures long { length left.new ≡ length left.old }
     ensures begun { AreBegun log.now left.old left.new }
 {
@@ -137,7 +137,7 @@ fn lower_slice(
     lows: &[Mark],
     log: &mut Vec<Mark>,
 ) -> Result<(), AllocFailed<Mark>>
-    requires inside { AreMarks (length left.old) lows.now }
+    requires inside { AreSlotMarks (length left.old) lows.now }
     ensures long { length left.new ≡ length left.old }
     ensures lowered { IfOk result (λ _. AreLowered lows.now left.old left.new) }
     ensures logged { IfOk result (λ _. GoesBack log.new.items left.new log.old.items left.old) }
@@ -159,7 +159,7 @@ fn lower_slice(
 
 /// `undo_slice` of a vector.
 pub fn undo(left: &mut Vec<usize>, log: &[Mark])
-    requires inside { AreMarks (length left.old.items) log.now }
+    requires inside { AreSlotMarks (length left.old.items) log.now }
     ensures long { length left.new.items ≡ length left.old.items }
     ensures begun { AreBegun log.now left.old.items left.new.items }
 {
@@ -172,7 +172,7 @@ pub fn lower(
     lows: &[Mark],
     log: &mut Vec<Mark>,
 ) -> Result<(), AllocFailed<Mark>>
-    requires inside { AreMarks (length left.old.items) lows.now }
+    requires inside { AreSlotMarks (length left.old.items) lows.now }
     ensures long { length left.new.items ≡ length left.old.items }
     ensures lowered { IfOk result (λ _. AreLowered lows.now left.old.items left.new.items) }
     ensures logged { IfOk result

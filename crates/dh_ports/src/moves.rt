@@ -15,7 +15,7 @@ ghost use Rattle.dh_ports.specs.EventMoves.{claims_by, moves_at, moves_by, HasFe
 ghost use Rattle.dh_ports.specs.Layouts.{AllWaysLead, AreRoundsOf, AreScopesNoted, HaveFewCopies, IsLayout, NotesViews};
 ghost use Rattle.dh_ports.specs.Runs as definitions;
 ghost use Rattle.dh_ports.specs.Runs.{moves_in, one_claim, row_to, AddsBehind, AddsMoves};
-ghost use Rattle.dh_ports.specs.Tallies.{IsReady};
+ghost use Rattle.dh_ports.specs.Tallies.{IsReadyTally};
 ghost use Rattle.dh_base.specs.Limits.{most_copies};
 
 use crate::banks::{bank_bases, bank_count, bank_reached, entity_of, number_of};
@@ -125,7 +125,7 @@ pub fn layout_of(alloc: Global, typed: &Typed, nests: Nests) -> Result<Layout, N
 
 /// The number of the bank that a move claims; 0 where it claims none.
 pub fn slot_of(next: Move) -> usize
-    ensures { result ≡ definitions.slot_of next }
+    ensures { result ≡ definitions.claimed_slot next }
 {
     match next {
         Move::Claim { slot, .. } => slot,
@@ -168,7 +168,7 @@ fn is_next(last: Run, slot: usize) -> bool
 
 /// Whether the claim of a bank goes on with a run.
 fn goes_on(last: Run, event: usize, slot: usize, keys: usize) -> bool
-    ensures { result ≡ definitions.goes_on last event slot keys }
+    ensures { result ≡ definitions.claim_extends_run last event slot keys }
 {
     claims_so(last.first, event, keys) && is_next(last, slot)
 }
@@ -394,10 +394,10 @@ fn claim_memory(
     requires layout { IsLayout (program_seen typed.now) layout.now }
     requires copies { copies_round (loops_listed layout.now.rounds.items claimant.round) ≤ most_copies }
     requires named { NamesMemory (program_seen typed.now) claimant.access.now memory }
-    requires past { IsReady tally.old }
+    requires past { IsReadyTally tally.old }
     ensures claims { OnOk result (AddsMoves moves.old moves.new
         (claims_by typed.now layout.now claimant.entry)) }
-    ensures past { OnOk result (IsReady tally.new) }
+    ensures past { OnOk result (IsReadyTally tally.new) }
 {
     let Some(entry) = typed.memories().as_slice().get(memory) else {
         return Ok(());
@@ -440,10 +440,10 @@ fn claim_view(
     requires leads { LeadsTo (memories_of (program_seen typed.now)) (way_seen way.now) }
     requires named { NamesView (program_seen typed.now) claimant.access.now (way_seen way.now) }
     requires carrier { IsCarrier (way_seen way.now) carrier.now }
-    requires past { IsReady tally.old }
+    requires past { IsReadyTally tally.old }
     ensures claims { OnOk result (AddsMoves moves.old moves.new
         (claims_by typed.now layout.now claimant.entry)) }
-    ensures past { OnOk result (IsReady tally.new) }
+    ensures past { OnOk result (IsReadyTally tally.new) }
 {
     let ends_at = way.memory();
     let Some(memory) = number_of(typed, ends_at) else {
@@ -485,10 +485,10 @@ fn claim_led(
     requires copies { copies_round (loops_listed layout.now.rounds.items claimant.round) ≤ most_copies }
     requires entity { entity ≡ entity_in (form_seen claimant.access.now.form) }
     requires other { number_in (memories_of (program_seen typed.now)) entity ≡ None }
-    requires past { IsReady tally.old }
+    requires past { IsReadyTally tally.old }
     ensures claims { OnOk result (AddsMoves moves.old moves.new
         (claims_by typed.now layout.now claimant.entry)) }
-    ensures past { OnOk result (IsReady tally.new) }
+    ensures past { OnOk result (IsReadyTally tally.new) }
 {
     let Some(place) = layout.ways.place_of(entity) else {
         return Ok(());
@@ -520,10 +520,10 @@ fn claim(
     requires layout { IsLayout (program_seen typed.now) layout.now }
     requires leads { AllWaysLead (program_seen typed.now) }
     requires copies { copies_round (loops_listed layout.now.rounds.items claimant.round) ≤ most_copies }
-    requires past { IsReady tally.old }
+    requires past { IsReadyTally tally.old }
     ensures claims { OnOk result (AddsMoves moves.old moves.new
         (claims_by typed.now layout.now claimant.entry)) }
-    ensures past { OnOk result (IsReady tally.new) }
+    ensures past { OnOk result (IsReadyTally tally.new) }
 {
     let entity = entity_of(claimant.access);
     let Some(memory) = number_of(typed, entity) else {
@@ -547,10 +547,10 @@ pub fn move_banks(
     requires layout { IsLayout (program_seen typed.now) layout.now }
     requires leads { AllWaysLead (program_seen typed.now) }
     requires copies { HasFewCopiesAt layout.now.rounds.items event }
-    requires past { IsReady tally.old }
+    requires past { IsReadyTally tally.old }
     ensures moves { OnOk result (AddsMoves moves.old moves.new
         (moves_at typed.now layout.now place event.entry)) }
-    ensures past { OnOk result (IsReady tally.new) }
+    ensures past { OnOk result (IsReadyTally tally.new) }
 {
     match event {
         Event::Touch {

@@ -4,10 +4,10 @@ ghost use Rattle.std.specs.Prelude.{◌≡◌, Some, IfOk, OnOk, length, slice_g
 ghost use Rattle.std.specs.List.{AllByRecursion};
 ghost use Rattle.dh_tree.specs.LeastBreach.{least_of};
 ghost use Rattle.dh_events.specs.Classes.{KeysAreDistinct, ExtendsKeys};
-ghost use Rattle.dh_ports.specs.Levels.{IsKept};
+ghost use Rattle.dh_ports.specs.Levels.{LevelsKept};
 ghost use Rattle.dh_ports.specs.Orders as orders;
 ghost use Rattle.dh_ports.specs.Orders.{AreMarked, AreRead, MarksRead};
-ghost use Rattle.dh_ports.specs.Passing.{KeepsFrom, KeepsTo};
+ghost use Rattle.dh_ports.specs.Passing.{KeepsLeastBreachFrom, KeepsTo};
 ghost use Rattle.dh_ports.specs.Runs.{moves_in, moves_of_run};
 ghost use Rattle.dh_ports.specs.Scanned as scanned;
 ghost use Rattle.dh_ports.specs.Scanned.{IsMoveOf, KeepsLate};
@@ -58,7 +58,7 @@ fn note_write(
     next: Move,
 ) -> Result<(), NoMemory>
     requires within { IsMoveOf (length events.now) next }
-    ensures written { OnOk result (scanned.IsNoted classes.new events.now next) }
+    ensures written { OnOk result (scanned.IsNotedClaim classes.new events.now next) }
     ensures extends { OnOk result (ExtendsKeys classes.old classes.new) }
     ensures marked { OnOk result (AreMarked classes.old marked.old.items
         → AreMarked classes.new marked.new.items) }
@@ -271,7 +271,7 @@ fn keep_run(
     requires distinct { KeysAreDistinct classes.now }
     requires marked { AreMarked classes.now marked.now }
     requires within { AllByRecursion (IsMoveOf (length events.now)) (moves_of_run run) }
-    requires kept { IsKept levels.old }
+    requires kept { LevelsKept levels.old }
     ensures { OnOk result (KeepsTo classes.now events.now kept.old levels.old
         (moves_of_run run) kept.new levels.new) }
 {
@@ -304,7 +304,7 @@ fn keep_all(
     requires distinct { KeysAreDistinct classes.now }
     requires marked { AreMarked classes.now marked.now }
     requires within { AllByRecursion (IsMoveOf (length events.now)) (moves_in moves.now) }
-    ensures { OnOk result (KeepsFrom classes.now events.now starts.items (moves_in moves.now)
+    ensures { OnOk result (KeepsLeastBreachFrom classes.now events.now starts.items (moves_in moves.now)
         kept.old kept.new) }
 {
     let mut levels = Levels::new(alloc, starts);

@@ -2,7 +2,7 @@
 
 ghost use Rattle.std.specs.Prelude.{◌≡◌, ◌≤◌, ◌+◌, IfOk, length, replicate};
 ghost use Rattle.dh_events.specs.Classes.{ExtendsKeys};
-ghost use Rattle.dh_ports.specs.Levels.{IsKept};
+ghost use Rattle.dh_ports.specs.Levels.{LevelsKept};
 ghost use Rattle.dh_ports.specs.SharedSoFar.{BeginsShared, NotesShare, SharesNext};
 ghost use Rattle.dh_ports.specs.Scanned as scanned;
 ghost use Rattle.dh_ports.specs.Scanned.{IsSharing};
@@ -15,7 +15,7 @@ use std::alloc::Global;
 
 /// The key of an event that is a read, where its names stand for something: it is that of reads that are
 /// equal, in one phase, and have no assignment between them to a variable in their indices.
-fn read_key(event: Event<'_>) -> Option<Key>
+pub fn read_key(event: Event<'_>) -> Option<Key>
     ensures { result ≡ scanned.read_key event.entry }
 {
     match event {
@@ -111,7 +111,7 @@ fn share_event(
     levels: &mut Levels,
     event: Event<'_>,
 ) -> Result<bool, NoMemory>
-    requires kept { IsKept levels.old }
+    requires kept { LevelsKept levels.old }
     ensures { IfOk result (λ flag. SharesNext classes.old classes.new levels.old levels.new
         event.entry flag) }
 {
@@ -149,7 +149,7 @@ impl Sharing {
 
     /// Notes an event.
     pub fn note(&mut self, alloc: Global, event: Event<'_>) -> Result<(), NoMemory>
-        requires kept { IsKept self.old.levels }
+        requires kept { LevelsKept self.old.levels }
         ensures { IfOk result (λ _. NotesShare self.old self.new event.entry) }
     {
         let flag = share_event(alloc, &mut self.classes, &mut self.levels, event)?;

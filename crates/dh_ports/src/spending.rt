@@ -3,7 +3,7 @@
 ghost use Rattle.std.specs.Prelude.{◌≡◌, ◌≤◌, IfOk, length};
 ghost use Rattle.std.specs.List.{AllByRecursion};
 ghost use Rattle.dh_events.specs.Noted.{all_seen, event_seen};
-ghost use Rattle.dh_ports.specs.Levels.{IsKept};
+ghost use Rattle.dh_ports.specs.Levels.{LevelsKept};
 ghost use Rattle.dh_ports.specs.Passing.{ComesToSoFar};
 ghost use Rattle.dh_ports.specs.Runs.{moves_in, moves_of_run};
 ghost use Rattle.dh_ports.specs.Scanned as scanned;
@@ -35,7 +35,7 @@ fn spending_step(shared: &[bool], next: Move) -> Step
 
 /// The place of an event, where it is an access.
 pub fn place_of(event: Event<'_>) -> Option<Place>
-    ensures { result ≡ scanned.place_of (event_seen event.entry) }
+    ensures { result ≡ scanned.event_place (event_seen event.entry) }
 {
     match event {
         Event::Touch { access, .. } => Some(access.place),
@@ -51,7 +51,7 @@ pub fn place_of(event: Event<'_>) -> Option<Place>
 /// The place of the access of a move.
 pub fn place_in(events: &[Event<'_>], next: Move) -> Option<Place>
     requires within { IsMoveOf (length events.now) next }
-    ensures { result ≡ scanned.place_in (all_seen events.now) next }
+    ensures { result ≡ scanned.move_place (all_seen events.now) next }
 {
     match next {
         Move::Claim { event, .. } => place_of(events[event]),
@@ -61,7 +61,7 @@ pub fn place_in(events: &[Event<'_>], next: Move) -> Option<Place>
 
 /// Whether a step takes more than is left.
 fn is_beyond(step: Step, left: usize) -> bool
-    ensures { result ≡ scanned.is_beyond step left }
+    ensures { result ≡ scanned.step_exceeds step left }
 {
     match step {
         Step::Access { takes, .. } => left < takes,
@@ -98,7 +98,7 @@ fn spend_run(
 ) -> Result<Walked, NoMemory>
     requires few { length shared.now ≤ length events.now }
     requires within { AllByRecursion (IsMoveOf (length shared.now)) (moves_of_run run) }
-    requires kept { IsKept levels.old }
+    requires kept { LevelsKept levels.old }
     ensures { IfOk result (λ walked. ComesToSoFar events.now shared.now levels.old
         (moves_of_run run) levels.new walked) }
 {
@@ -124,7 +124,7 @@ fn spend_all(
 ) -> Result<Walked, NoMemory>
     requires few { length shared.now ≤ length events.now }
     requires within { AllByRecursion (IsMoveOf (length shared.now)) (moves_in moves.now) }
-    requires kept { IsKept levels.old }
+    requires kept { LevelsKept levels.old }
     ensures { IfOk result (λ walked. ComesToSoFar events.now shared.now levels.old
         (moves_in moves.now) levels.new walked) }
 {

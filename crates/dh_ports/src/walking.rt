@@ -7,7 +7,7 @@ ghost use Rattle.dh_tree.specs.Seen.{program_seen};
 ghost use Rattle.dh_tree.specs.Shapes.{IsProgramTable};
 ghost use Rattle.dh_ports.specs.Layouts.{AllWaysLead, HaveFewCopies, IsLayout};
 ghost use Rattle.dh_ports.specs.SharedSoFar.{IsShared};
-ghost use Rattle.dh_ports.specs.Walks.{IsWalked};
+ghost use Rattle.dh_ports.specs.Walks.{EventsAreWalked};
 
 use crate::banks::bank_ports;
 use crate::keeping::Tally;
@@ -35,7 +35,7 @@ pub fn walk(
     requires leads { AllWaysLead (program_seen typed.now) }
     requires copies { HaveFewCopies layout.now.rounds.items events.now }
     requires begins { IsShared events.now 0 sharing.old }
-    ensures { IfOk result (λ walked. IsWalked (program_seen typed.now) layout.now events.now
+    ensures { IfOk result (λ walked. EventsAreWalked (program_seen typed.now) layout.now events.now
         sharing.new lasts.new walked) }
 {
     let ports = bank_ports(alloc, typed.memories().as_slice())?;

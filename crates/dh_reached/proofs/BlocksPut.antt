@@ -31,7 +31,7 @@ use Rattle.dh_laid.specs.BlockSites.{MadeEach, block_sites, command_sites, one_s
 use Rattle.dh_laid.specs.LaidNumbers.{StoresReach}
 use Rattle.dh_laid.proofs.AccessesLaid.{command_lays, each_lays}
 use Rattle.dh_reached.specs.IndicesKept.{CommandKeeps}
-use Rattle.dh_reached.specs.Puts.{AreInOrder, EachUse, Goes, IsUse, Put, PutsDown, operations_of}
+use Rattle.dh_reached.specs.Puts.{AreInOrder, EachUse, UseGoesBefore, IsSitedUse, OperationAtPath, PutsDown, operations_of}
 use Rattle.dh_reached.specs.ReachedBlocks.{AreUnused, ReadBy, StandsSpread, StraightReaches, TestReaches}
 use Rattle.dh_reached.specs.ReadsTold.{BlockReads, BlockShares}
 use Rattle.dh_reached.specs.StepBanks.{BlockUses}
@@ -45,7 +45,7 @@ use Rattle.dh_reached.proofs.TermsPut.{sites_long}
 
 -- What is behind a block.
 
-abbrev unused_puts : List Operation → List Put
+abbrev unused_puts : List Operation → List OperationAtPath
 unused_puts [] = []
 unused_puts (o ∷ os) = record { operation = o; path = 0 } ∷ unused_puts os
 
@@ -56,11 +56,11 @@ unused_are (o ∷ os) = ap (λ (l : List Operation). o ∷ l) (unused_are os)
 no_reach : (o : Option Reach) (r : Reach) → o ≡ None → o ≡ Some r → ⊥
 no_reach o r e f = let g : None ≡ Some r = sym e ∙ f in cc
 
-unused_each : (P : Put → Reach → Type 0) (os : List Operation) → AreUnused os → EachUse P (unused_puts os)
+unused_each : (P : OperationAtPath → Reach → Type 0) (os : List Operation) → AreUnused os → EachUse P (unused_puts os)
 unused_each P [] h = tt
 unused_each P (o ∷ os) h = (λ r e. absurd (no_reach (use_in o.form) r h.0 e), unused_each P os h.1)
 
-unused_behind : (x : BlockStep) (sites : ℕ → Option BlockSite) (u : Put) (os : List Operation) → AreUnused os → AllByRecursion (Goes x sites u) (unused_puts os)
+unused_behind : (x : BlockStep) (sites : ℕ → Option BlockSite) (u : OperationAtPath) (os : List Operation) → AreUnused os → AllByRecursion (UseGoesBefore x sites u) (unused_puts os)
 unused_behind x sites u [] h = tt
 unused_behind x sites u (o ∷ os) h = (λ r t e f. absurd (no_reach (use_in o.form) t h.0 f), unused_behind x sites u os h.1)
 
@@ -68,7 +68,7 @@ unused_order : (x : BlockStep) (sites : ℕ → Option BlockSite) (os : List Ope
 unused_order x sites [] h = tt
 unused_order x sites (o ∷ os) h = (unused_behind x sites (record { operation = o; path = 0 }) os h.1, unused_order x sites os h.1)
 
-unused_go : (x : BlockStep) (sites : ℕ → Option BlockSite) (us : List Put) (os : List Operation) → AreUnused os → GoAll x sites us (unused_puts os)
+unused_go : (x : BlockStep) (sites : ℕ → Option BlockSite) (us : List OperationAtPath) (os : List Operation) → AreUnused os → GoAll x sites us (unused_puts os)
 unused_go x sites [] os h = tt
 unused_go x sites (u ∷ us) os h = (unused_behind x sites u os h, unused_go x sites us os h)
 
@@ -83,7 +83,7 @@ block_uses plan block x sites first count old new more is unused h = record {
   puts = h.puts ++ unused_puts more;
   all = is ∙ (ap (λ (os : List Operation). os ++ more) (ap (λ (os : List Operation). drop (length old.operations.items) os) h.adds ∙ drop_front old.operations.items (operations_of h.puts))
       ∙ (ap (λ (os : List Operation). operations_of h.puts ++ os) (sym (unused_are more)) ∙ sym (operations_both h.puts (unused_puts more))));
-  uses = each_both (IsUse x sites) h.puts (unused_puts more) h.uses (unused_each (IsUse x sites) more unused);
+  uses = each_both (IsSitedUse x sites) h.puts (unused_puts more) h.uses (unused_each (IsSitedUse x sites) more unused);
   order = order_both x sites h.puts (unused_puts more) h.order (unused_order x sites more unused) (unused_go x sites h.puts more unused);
 }
 

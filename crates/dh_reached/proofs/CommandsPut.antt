@@ -43,8 +43,8 @@ use Rattle.dh_laid.specs.LaidNumbers.{IsAccessForm}
 use Rattle.dh_laid.proofs.AccessesLaid.{assigned_lays, cleared_lays, kept_lays, reduced_lays, stored_lays, term_lays}
 use Rattle.dh_laid.proofs.ValuesLogged.{arm_long, stands_arm}
 use Rattle.dh_reached.specs.IndicesKept.{AreSeenFrom, FormKeeps, TermKeeps, TermsKeep}
-use Rattle.dh_reached.specs.Puts.{AreSited, EachUse, IsUse, PlacesRise, Put, PutsAt, PutsDown, is_write}
-use Rattle.dh_reached.specs.ReadsTold.{BlockShares, NoneReads}
+use Rattle.dh_reached.specs.Puts.{AreSitedAccesses, EachUse, IsSitedUse, PlacesRise, OperationAtPath, PutsAt, PutsDown, is_write}
+use Rattle.dh_reached.specs.ReadsTold.{BlockShares, NoReadAmong}
 use Rattle.dh_reached.proofs.LanesPut.{AllLanes, Behind, LaneDone, all_lanes, assigned_lane, cleared_lane, kept_lane, reduced_lane, tested_lane}
 use Rattle.dh_reached.proofs.LedUses.{IsLed, led_rise}
 use Rattle.dh_reached.proofs.NoUses.{AddsNone, before_none, behind_none, down_then, none_again, none_counted, none_pushed, none_still, puts_added}
@@ -139,11 +139,11 @@ arm_paths Inner around holds tests old new first next lefts m many = arm_long ho
 -- Whole commands.
 
 module _ (x : BlockStep) (sites : ℕ → Option BlockSite) where
-  each_any : (us : List Put) → EachUse (λ u r. Unit {0}) us
+  each_any : (us : List OperationAtPath) → EachUse (λ u r. Unit {0}) us
   each_any [] = tt
   each_any (u ∷ us) = (λ r at. tt, each_any us)
 
-  each_written : (us : List Put) → EachUse (λ u r. is_write u → Unit {0}) us
+  each_written : (us : List OperationAtPath) → EachUse (λ u r. is_write u → Unit {0}) us
   each_written [] = tt
   each_written (u ∷ us) = (λ r at w. tt, each_written us)
 
@@ -175,7 +175,7 @@ module _ (x : BlockStep) (sites : ℕ → Option BlockSite) (scene : Scene) (tab
   }
 
   -- a loop that has no turn, with accesses that have no operations; or nothing at all
-  pub put_idle : (first count : ℕ) (old new : Building) → new ≡ old → NoneReads IsRead first count → Stood old.accesses first → CommandPut first count old new
+  pub put_idle : (first count : ℕ) (old new : Building) → new ≡ old → NoReadAmong IsRead first count → Stood old.accesses first → CommandPut first count old new
   put_idle first count old new still none h = record {
     down = (puts_added x sites first count (λ u r. Unit {0}) (λ n. Unit {0}) old.draft new.draft (none_still old.draft new.draft (ap (λ (b : Building). b.draft) still))).down;
     behind = subst (λ (b : Building). Stood b.accesses (first + count)) (sym still) (record {
@@ -223,7 +223,7 @@ module _ (x : BlockStep) (sites : ℕ → Option BlockSite) (scene : Scene) (tab
 
     abbrev Rises : (ways : ℕ → Option (Option Way)) → Type 0
     Rises ways =
-        (u v : Put) (r t : Reach) → u.path < v.path → v.path < paths_counted around → r.access ≡ t.access → IsUse x sites u r → IsLed x scene around begun sites ways u r → IsLed x scene around begun sites ways v t
+        (u v : OperationAtPath) (r t : Reach) → u.path < v.path → v.path < paths_counted around → r.access ≡ t.access → IsSitedUse x sites u r → IsLed x scene around begun sites ways u r → IsLed x scene around begun sites ways v t
         → PlacesRise x sites u v r t
 
     rises : (ways : ℕ → Option (Option Way)) → Rises ways
@@ -231,7 +231,7 @@ module _ (x : BlockStep) (sites : ℕ → Option BlockSite) (scene : Scene) (tab
 
     module _ (Sets : ℕ → Type 0) where
       lanes_put : (ss : List BlockSite) (ws : List (Option Way)) (count : ℕ) → length ss ≡ count → (One : ℕ → (b d : Building) → ℕ → Type 0) → ((n : ℕ) (b d : Building) (k : ℕ) → One n b d k → Extends b.draft d.draft)
-          → ((n : ℕ) (b d : Building) (k : ℕ) → n < paths_counted around → One n b d k → FitsStep x d.draft → BlockBegun x b.draft → Stays scene around Sets begun b.values.current.items → AreSited x sites b.accesses
+          → ((n : ℕ) (b d : Building) (k : ℕ) → n < paths_counted around → One n b d k → FitsStep x d.draft → BlockBegun x b.draft → Stays scene around Sets begun b.values.current.items → AreSitedAccesses x sites b.accesses
           → AreNext scene (lane_of around n) b.accesses first count → LaneDone x sites scene table IsRead paths (ways_at ws) begun Sets around n first count count (λ i. ⊥) b d)
           → SitesAt sites first ss → (next : ℕ) → MadeLanes One (paths_counted around) first old new next → CommandPut first count old new
       lanes_put ss ws count long One extends step at next m =

@@ -40,7 +40,7 @@ use Rattle.dh_commands.specs.MadeCommands.{FoldedWith, MadeAssigned, MadeCleared
 use Rattle.dh_laid.specs.BlockSites.{term_sites, terms_sites}
 use Rattle.dh_laid.proofs.AccessesLaid.{folded_extends}
 use Rattle.dh_reached.specs.IndicesKept.{AreSeenFrom, TermKeeps, TermsKeep}
-use Rattle.dh_reached.specs.Puts.{AreSited, IsUse, PlacesRise, Put, PutsAt, PutsDown}
+use Rattle.dh_reached.specs.Puts.{AreSitedAccesses, IsSitedUse, PlacesRise, OperationAtPath, PutsAt, PutsDown}
 use Rattle.dh_reached.proofs.LedUses.{IsLed}
 use Rattle.dh_reached.specs.ReadsTold.{BlockShares}
 use Rattle.dh_reached.proofs.NoUses.{AddsNone, none_again, none_counted, none_pushed, none_still, paths_then, puts_added}
@@ -102,7 +102,7 @@ offsets_counted scene lane current (t ∷ ts) old new before after n next values
 module _ (x : BlockStep) (sites : ℕ → Option BlockSite) (scene : Scene) (table : x.start.table ≡ table_of (program_seen scene.program.now)) (IsRead : ℕ → Type 0) (paths : ℕ) where
   -- where the commands up to a number are put down: reads before it have given at all paths, those behind it at none
   pub record Behind (a : Accesses) (upto : ℕ) : Type 0 where
-    pub sited : AreSited x sites a
+    pub sited : AreSitedAccesses x sites a
     pub given : (e : ℕ) → IsRead e → e < upto → paths ≤ given_at_paths a e
     pub fresh : (m : ℕ) (s : BlockSite) → sites m ≡ Some s → upto ≤ m → given_at_paths a m ≡ 0
 
@@ -111,19 +111,19 @@ module _ (x : BlockStep) (sites : ℕ → Option BlockSite) (scene : Scene) (tab
     -- one path of a command: so many of its accesses are reads, the first ones
     pub record LaneDone (around : Around) (n first count reads : ℕ) (Written : ℕ → Type 0) (b d : Building) : Type 0 where
       pub puts : PutsAt x sites first count (λ u r. (u.path ≡ n) × IsLed x scene around start sites ways u r) Written b.draft d.draft
-      pub sited : AreSited x sites d.accesses
+      pub sited : AreSitedAccesses x sites d.accesses
       pub given : HaveGiven (lane_of around n) b.accesses d.accesses first reads
       pub kept : Stays scene around Sets b.values.current.items d.values.current.items
 
     module _ (around : Around) (same : paths_counted around ≡ paths) (shares : BlockShares IsRead scene sites) (first count reads : ℕ) (within : reads ≤ count) (Written : ℕ → Type 0) (one : (i j : ℕ) → Written i → Written j → i ≡ j)
-        (rises : (u v : Put) (r t : Reach) → u.path < v.path → v.path < paths_counted around → r.access ≡ t.access → IsUse x sites u r → IsLed x scene around start sites ways u r → IsLed x scene around start sites ways v t → PlacesRise x sites u v r t)
+        (rises : (u v : OperationAtPath) (r t : Reach) → u.path < v.path → v.path < paths_counted around → r.access ≡ t.access → IsSitedUse x sites u r → IsLed x scene around start sites ways u r → IsLed x scene around start sites ways v t → PlacesRise x sites u v r t)
         (One : ℕ → (b d : Building) → ℕ → Type 0) (extends : (n : ℕ) (b d : Building) (k : ℕ) → One n b d k → Extends b.draft d.draft)
-        (step : (n : ℕ) (b d : Building) (k : ℕ) → n < paths_counted around → One n b d k → FitsStep x d.draft → BlockBegun x b.draft → Stays scene around Sets start b.values.current.items → AreSited x sites b.accesses → AreNext scene (lane_of around n) b.accesses first reads
+        (step : (n : ℕ) (b d : Building) (k : ℕ) → n < paths_counted around → One n b d k → FitsStep x d.draft → BlockBegun x b.draft → Stays scene around Sets start b.values.current.items → AreSitedAccesses x sites b.accesses → AreNext scene (lane_of around n) b.accesses first reads
         → LaneDone around n first count reads Written b d)
         (old : Building) (begins : start ≡ old.values.current.items) (h : Behind old.accesses first) (there_are : (m : ℕ) → first ≤ m → m < first + reads → (s : BlockSite) × (sites m ≡ Some s)) (b0 : BlockBegun x old.draft) where
       record Lanes (n : ℕ) (d : Building) : Type 0 where
         puts : PutsAt x sites first count (λ u r. (u.path < n) × IsLed x scene around start sites ways u r) Written old.draft d.draft
-        sited : AreSited x sites d.accesses
+        sited : AreSitedAccesses x sites d.accesses
         stays : Stays scene around Sets start d.values.current.items
         own : (m : ℕ) → first ≤ m → m < first + reads → given_at_paths d.accesses m ≡ n
         before_them : (m : ℕ) → m < first → given_at_paths d.accesses m ≡ given_at_paths old.accesses m
@@ -136,7 +136,7 @@ module _ (x : BlockStep) (sites : ℕ → Option BlockSite) (scene : Scene) (tab
       lanes_none : (d : Building) → d ≡ old → Lanes 0 d
       lanes_none d still = record {
         puts = puts_added x sites first count (λ u r. (u.path < 0) × IsLed x scene around start sites ways u r) Written old.draft d.draft (none_still old.draft d.draft (ap (λ (e : Building). e.draft) still));
-        sited = subst (λ (e : Building). AreSited x sites e.accesses) (sym still) h.sited;
+        sited = subst (λ (e : Building). AreSitedAccesses x sites e.accesses) (sym still) h.sited;
         stays = stays_same scene around Sets start d.values.current.items (ap (λ (e : Building). e.values.current.items) still ∙ sym begins);
         own = λ m from below. let s = there_are m from below in ap (λ (e : Building). given_at_paths e.accesses m) still ∙ h.fresh m s.0 s.1 from;
         before_them = λ m less. ap (λ (e : Building). given_at_paths e.accesses m) still;
@@ -207,7 +207,7 @@ module _ (x : BlockStep) (sites : ℕ → Option BlockSite) (scene : Scene) (tab
 
       -- an expression, and what is made of its value
       pub term_lane : (t : Term) (first : ℕ) (middle : Draft) (b d : Building) (k v : ℕ) → Stays scene around Sets b.values.current.items d.values.current.items → MadeTerm scene (lane_of around n) b.values.current.items t b.draft middle b.accesses d.accesses first k v → AddsNone middle d.draft → Extends middle d.draft
-          → first + term_accesses t < 2 ^ 32 → SitesAt sites first (term_sites scene around t) → SitesAt ways first (term_ways scene t) → TermKeeps x scene around.levels.now Sets t → FitsStep x d.draft → BlockBegun x b.draft → Stays scene around Sets start b.values.current.items → AreSited x sites b.accesses
+          → first + term_accesses t < 2 ^ 32 → SitesAt sites first (term_sites scene around t) → SitesAt ways first (term_ways scene t) → TermKeeps x scene around.levels.now Sets t → FitsStep x d.draft → BlockBegun x b.draft → Stays scene around Sets start b.values.current.items → AreSitedAccesses x sites b.accesses
           → AreNext scene (lane_of around n) b.accesses first (term_accesses t) → LaneDone around n first (term_accesses t) (term_accesses t) (λ i. ⊥) b d
       term_lane t first middle b d k v kept m none e few at wat keeps f s stays sited next =
           let all : Done x sites scene (lane_of around n) stands within table ways start first (term_accesses t) b.draft d.draft b.accesses d.accesses =
@@ -216,30 +216,30 @@ module _ (x : BlockStep) (sites : ℕ → Option BlockSite) (scene : Scene) (tab
           record { puts = all.here.puts; sited = all.here.sited; given = all.given; kept = kept }
 
       pub assigned_lane : (first entity : ℕ) (t : Term) (b d : Building) (k : ℕ) → IsSeen scene around.levels.now entity → Sets entity → MadeAssigned scene (lane_of around n) first entity t b d k
-          → first + term_accesses t < 2 ^ 32 → SitesAt sites first (term_sites scene around t) → SitesAt ways first (term_ways scene t) → TermKeeps x scene around.levels.now Sets t → FitsStep x d.draft → BlockBegun x b.draft → Stays scene around Sets start b.values.current.items → AreSited x sites b.accesses
+          → first + term_accesses t < 2 ^ 32 → SitesAt sites first (term_sites scene around t) → SitesAt ways first (term_ways scene t) → TermKeeps x scene around.levels.now Sets t → FitsStep x d.draft → BlockBegun x b.draft → Stays scene around Sets start b.values.current.items → AreSitedAccesses x sites b.accesses
           → AreNext scene (lane_of around n) b.accesses first (term_accesses t) → LaneDone around n first (term_accesses t) (term_accesses t) (λ i. ⊥) b d
       assigned_lane first entity t b d k seen set m few at wat keeps f s stays sited next =
           term_lane t first m.middle b d k m.value (stays_set scene around Sets stands.placed n within entity m.held b.values d.values seen set m.sets) m.term (held_none t (held_at scene.held.now entity).kind m.value m.middle d.draft m.held m.holds)
           (held_forms t (held_at scene.held.now entity).kind m.value m.middle d.draft m.held m.holds).extends few at wat keeps f s stays sited next
 
       pub reduced_lane : (first entity : ℕ) (op : Op) (t : Term) (b d : Building) (k : ℕ) → IsSeen scene around.levels.now entity → Sets entity → MadeReduced scene (lane_of around n) first entity op t b d k
-          → first + term_accesses t < 2 ^ 32 → SitesAt sites first (term_sites scene around t) → SitesAt ways first (term_ways scene t) → TermKeeps x scene around.levels.now Sets t → FitsStep x d.draft → BlockBegun x b.draft → Stays scene around Sets start b.values.current.items → AreSited x sites b.accesses
+          → first + term_accesses t < 2 ^ 32 → SitesAt sites first (term_sites scene around t) → SitesAt ways first (term_ways scene t) → TermKeeps x scene around.levels.now Sets t → FitsStep x d.draft → BlockBegun x b.draft → Stays scene around Sets start b.values.current.items → AreSitedAccesses x sites b.accesses
           → AreNext scene (lane_of around n) b.accesses first (term_accesses t) → LaneDone around n first (term_accesses t) (term_accesses t) (λ i. ⊥) b d
       reduced_lane first entity op t b d k seen set m few at wat keeps f s stays sited next =
           term_lane t first m.middle b d k m.value (stays_set scene around Sets stands.placed n within entity m.folded b.values d.values seen set m.sets) m.term (folded_none (lane_of around n) b.values.current.items (held_at scene.held.now entity) op t m.value m.middle d.draft m.folded m.folds)
           (folded_extends (lane_of around n) b.values.current.items (held_at scene.held.now entity) op t m.value m.middle d.draft m.folded m.folds) few at wat keeps f s stays sited next
 
       pub tested_lane : (first : ℕ) (t : Term) (b d : Building) (k v : ℕ) → MadeTested scene (lane_of around n) first t b d k v
-          → first + term_accesses t < 2 ^ 32 → SitesAt sites first (term_sites scene around t) → SitesAt ways first (term_ways scene t) → TermKeeps x scene around.levels.now Sets t → FitsStep x d.draft → BlockBegun x b.draft → Stays scene around Sets start b.values.current.items → AreSited x sites b.accesses
+          → first + term_accesses t < 2 ^ 32 → SitesAt sites first (term_sites scene around t) → SitesAt ways first (term_ways scene t) → TermKeeps x scene around.levels.now Sets t → FitsStep x d.draft → BlockBegun x b.draft → Stays scene around Sets start b.values.current.items → AreSitedAccesses x sites b.accesses
           → AreNext scene (lane_of around n) b.accesses first (term_accesses t) → LaneDone around n first (term_accesses t) (term_accesses t) (λ i. ⊥) b d
       tested_lane first t b d k v m few at wat keeps f s stays sited next =
           term_lane t first d.draft b d k v (stays_same scene around Sets b.values.current.items d.values.current.items (ap (λ (w : Values). w.current.items) m.same)) m.term (none_still d.draft d.draft refl) (record { operations = λ n o at. at; faults = λ n f at. at; longer = omega arith }) few at wat keeps f s stays sited next
 
-      pub cleared_lane : (first entity : ℕ) (b d : Building) → Stays scene around Sets b.values.current.items d.values.current.items → MadeCleared scene (lane_of around n) entity b d → AreSited x sites b.accesses → LaneDone around n first 0 0 (λ i. ⊥) b d
+      pub cleared_lane : (first entity : ℕ) (b d : Building) → Stays scene around Sets b.values.current.items d.values.current.items → MadeCleared scene (lane_of around n) entity b d → AreSitedAccesses x sites b.accesses → LaneDone around n first 0 0 (λ i. ⊥) b d
       cleared_lane first entity b d kept m sited = record {
         puts = puts_added x sites first 0 (λ u r. (u.path ≡ n) × IsLed x scene around start sites ways u r) (λ i. ⊥) b.draft d.draft
             (none_counted b.draft d.draft 0 _ _ (number_counts (λ register. Unit {0}) (λ r. Unit {0}) (λ r. ⊥) (λ r. ⊥) (held_at scene.held.now entity).kind false 0 b.draft d.draft m.value m.number));
-        sited = subst (λ (a : Accesses). AreSited x sites a) (sym m.same) sited;
+        sited = subst (λ (a : Accesses). AreSitedAccesses x sites a) (sym m.same) sited;
         given = given_none scene (lane_of around n) b.accesses d.accesses first m.same;
         kept = kept;
       }
@@ -247,7 +247,7 @@ module _ (x : BlockStep) (sites : ℕ → Option BlockSite) (scene : Scene) (tab
       -- a view that keeps its offsets
       pub kept_lane : (first entity : ℕ) (offsets : List Term) (b d : Building) (k : ℕ) → AreSeenFrom scene around.levels.now entity (length offsets) → ((e : ℕ) → IsVariableAmong entity (length offsets) e → Sets e)
           → MadeKept scene (lane_of around n) first entity offsets b d k → first + terms_accesses (terms offsets) < 2 ^ 32 → SitesAt sites first (terms_sites scene around (terms offsets)) → SitesAt ways first (terms_ways scene (terms offsets))
-          → TermsKeep x scene around.levels.now Sets (terms offsets) → FitsStep x d.draft → BlockBegun x b.draft → Stays scene around Sets start b.values.current.items → AreSited x sites b.accesses
+          → TermsKeep x scene around.levels.now Sets (terms offsets) → FitsStep x d.draft → BlockBegun x b.draft → Stays scene around Sets start b.values.current.items → AreSitedAccesses x sites b.accesses
           → AreNext scene (lane_of around n) b.accesses first (terms_accesses (terms offsets)) → LaneDone around n first (terms_accesses (terms offsets)) (terms_accesses (terms offsets)) (λ i. ⊥) b d
       kept_lane first entity offsets b d k seen sets m few at wat keeps f s stays sited next =
           let all : Done x sites scene (lane_of around n) stands within table ways start first (terms_accesses (terms offsets)) b.draft d.draft b.accesses d.accesses =

@@ -27,7 +27,7 @@ use Rattle.dh_commands.specs.ShownVariables.{ArePlaced, IsSeen, depth_in, level_
 use Rattle.dh_blocks.specs.PathsOfLevels.{AreSpread}
 use Rattle.dh_charged.proofs.PathGroups.{one_group}
 use Rattle.dh_reached.specs.IndicesKept.{ShiftsKept}
-use Rattle.dh_reached.specs.Puts.{IsUse, PlacesRise, Put}
+use Rattle.dh_reached.specs.Puts.{IsSitedUse, PlacesRise, OperationAtPath}
 use Rattle.dh_reached.proofs.NamedBanks.{Reached, same_at_shifts, same_named}
 use Rattle.dh_reached.proofs.PlacesCounted.{places_rise}
 
@@ -69,7 +69,7 @@ module _ (x : BlockStep) (scene : Scene) (around : Around) (start : List (Option
   CountsBy o s = (path : ℕ) → s.standing.places path ≡ places_by s.standing.leader s.standing.bank (λ p. groups_by around.levels.now (shifts_on o) p) path
 
   -- a use of an access that stands so and has this way
-  pub record IsLed (sites : ℕ → Option BlockSite) (ways : ℕ → Option (Option Way)) (u : Put) (r : Reach) : Type 0 where
+  pub record IsLed (sites : ℕ → Option BlockSite) (ways : ℕ → Option (Option Way)) (u : OperationAtPath) (r : Reach) : Type 0 where
     pub way : Option Way
     pub way_is : ways r.access ≡ Some way
     pub site : BlockSite
@@ -124,7 +124,7 @@ module _ (x : BlockStep) (scene : Scene) (around : Around) (start : List (Option
         before a b c l f = omega (arith, l, f)
 
     module _ (sites : ℕ → Option BlockSite) (ways : ℕ → Option (Option Way)) where
-      pub led_rise : (u v : Put) (r t : Reach) → u.path < v.path → v.path < paths_counted around → paths_counted around < 2 ^ 32 → r.access ≡ t.access → IsUse x sites u r → IsLed sites ways u r → IsLed sites ways v t → PlacesRise x sites u v r t
+      pub led_rise : (u v : OperationAtPath) (r t : Reach) → u.path < v.path → v.path < paths_counted around → paths_counted around < 2 ^ 32 → r.access ≡ t.access → IsSitedUse x sites u r → IsLed sites ways u r → IsLed sites ways v t → PlacesRise x sites u v r t
       led_rise u v r t less within few same had one two y z at_y at_z bank s at =
           places_less one.way s u.path v.path z.bank (subst (λ (o : BlockSite). CountsBy one.way o) own one.counts) less within (before v.path (paths_counted around) within few)
           (subst (λ (o : BlockSite). o.standing.leader u.path ≡ u.path) (some_same had.site s (sym had.there ∙ at)) had.leads)

@@ -13,7 +13,7 @@ use Rattle.dh_expressions.specs.Drafted.{Pushes, BlockStep}
 use Rattle.dh_formed.specs.Counted.{Counts, FormIs}
 use Rattle.dh_formed.specs.Formed.{BlockSite}
 use Rattle.dh_formed.proofs.ElementsFormed.{all_append}
-use Rattle.dh_reached.specs.Puts.{AreInOrder, EachUse, Goes, GoesBefore, IsUse, PlacesRise, Put, PutsAt, PutsDown, is_write, operations_of}
+use Rattle.dh_reached.specs.Puts.{AreInOrder, EachUse, UseGoesBefore, GoesBefore, IsSitedUse, PlacesRise, OperationAtPath, PutsAt, PutsDown, is_write, operations_of}
 use Rattle.dh_reached.proofs.PutLists.{each_both, each_two, each_weaker, go_by, operations_both, order_both}
 
 abbrev pub UsesNone : OperationForm → Type 0
@@ -35,7 +35,7 @@ none_used (Write reach value) r h e = absurd h
 none_used (Set register value) r h e = absurd (cc)
 
 -- each at a path that doesn't matter
-abbrev at_none : List Operation → List Put
+abbrev at_none : List Operation → List OperationAtPath
 at_none [] = []
 at_none (o ∷ os) = record { operation = o; path = 0 } ∷ at_none os
 
@@ -43,11 +43,11 @@ at_none_is : (os : List Operation) → operations_of (at_none os) ≡ os
 at_none_is [] = refl
 at_none_is (o ∷ os) = ap (λ (l : List Operation). o ∷ l) (at_none_is os)
 
-none_each : (P : Put → Reach → Type 0) (os : List Operation) → AllByRecursion (λ o. UsesNone o.form) os → EachUse P (at_none os)
+none_each : (P : OperationAtPath → Reach → Type 0) (os : List Operation) → AllByRecursion (λ o. UsesNone o.form) os → EachUse P (at_none os)
 none_each P [] h = tt
 none_each P (o ∷ os) h = (λ r e. absurd (none_used o.form r h.0 e), none_each P os h.1)
 
-none_goes : (x : BlockStep) (sites : ℕ → Option BlockSite) (o : Operation) (path : ℕ) (us : List Put) → UsesNone o.form → AllByRecursion (Goes x sites (record { operation = o; path = path })) us
+none_goes : (x : BlockStep) (sites : ℕ → Option BlockSite) (o : Operation) (path : ℕ) (us : List OperationAtPath) → UsesNone o.form → AllByRecursion (UseGoesBefore x sites (record { operation = o; path = path })) us
 none_goes x sites o path [] h = tt
 none_goes x sites o path (u ∷ us) h = (λ r t e f. absurd (none_used o.form r h e), none_goes x sites o path us h)
 
@@ -80,13 +80,13 @@ none_again a b c h k = record {
   each = all_append (λ (o : Operation). UsesNone o.form) h.more k.more h.each k.each;
 }
 
-module _ (x : BlockStep) (sites : ℕ → Option BlockSite) (first count : ℕ) (IsAt : Put → Reach → Type 0) (IsWritten : ℕ → Type 0) where
+module _ (x : BlockStep) (sites : ℕ → Option BlockSite) (first count : ℕ) (IsAt : OperationAtPath → Reach → Type 0) (IsWritten : ℕ → Type 0) where
   pub puts_added : (old new : Draft) → AddsNone old new → PutsAt x sites first count IsAt IsWritten old new
   puts_added old new c = record {
     down = record {
       puts = at_none c.more;
       adds = c.adds ∙ ap (λ (os : List Operation). old.operations.items ++ os) (sym (at_none_is c.more));
-      uses = none_each (IsUse x sites) c.more c.each;
+      uses = none_each (IsSitedUse x sites) c.more c.each;
       within = none_each (λ u r. (first ≤ r.access) × (r.access < first + count)) c.more c.each;
       order = none_order x sites c.more c.each;
     };
@@ -97,7 +97,7 @@ module _ (x : BlockStep) (sites : ℕ → Option BlockSite) (first count : ℕ) 
   -- one that does
   pub puts_one : (old new : Draft) (n path : ℕ) (guard : Option ℕ) (form : OperationForm) → Pushes old new n guard form
       → ((r : Reach) → use_in form ≡ Some r → IsAt (record { operation = record { guard = guard; form = form }; path = path }) r)
-      → ((r : Reach) → use_in form ≡ Some r → IsUse x sites (record { operation = record { guard = guard; form = form }; path = path }) r)
+      → ((r : Reach) → use_in form ≡ Some r → IsSitedUse x sites (record { operation = record { guard = guard; form = form }; path = path }) r)
       → ((r : Reach) → use_in form ≡ Some r → (first ≤ r.access) × (r.access < first + count)) → ((r : Reach) → use_in form ≡ Some r → writes_memory form → IsWritten r.access)
       → PutsAt x sites first count IsAt IsWritten old new
   puts_one old new n path guard form p at is within written = record {
@@ -127,8 +127,8 @@ module _ (x : BlockStep) (sites : ℕ → Option BlockSite) (first count : ℕ) 
       upper a l = omega (arith, l, high)
 
 -- One behind the other, where the uses of the first go before those of the second.
-abbrev pub Joins : BlockStep → (sites : ℕ → Option BlockSite) → (P Q : Put → Reach → Type 0) → Type 0
-Joins x sites P Q = (a b : Put) (r t : Reach) → P a r → Q b t → GoesBefore x sites a b r t
+abbrev pub Joins : BlockStep → (sites : ℕ → Option BlockSite) → (P Q : OperationAtPath → Reach → Type 0) → Type 0
+Joins x sites P Q = (a b : OperationAtPath) (r t : Reach) → P a r → Q b t → GoesBefore x sites a b r t
 
 module _ (x : BlockStep) (sites : ℕ → Option BlockSite) where
   -- of accesses and then of later ones
@@ -137,7 +137,7 @@ module _ (x : BlockStep) (sites : ℕ → Option BlockSite) where
     puts = h.puts ++ k.puts;
     adds = k.adds ∙ (ap (λ (os : List Operation). os ++ operations_of k.puts) h.adds
         ∙ (append_assoc a.operations.items (operations_of h.puts) (operations_of k.puts) ∙ ap (λ (os : List Operation). a.operations.items ++ os) (sym (operations_both h.puts k.puts))));
-    uses = each_both (IsUse x sites) h.puts k.puts h.uses k.uses;
+    uses = each_both (IsSitedUse x sites) h.puts k.puts h.uses k.uses;
     within = each_both (λ u r. (first ≤ r.access) × (r.access < first + (many + more))) h.puts k.puts
         (each_weaker (λ u r. (first ≤ r.access) × (r.access < first + many)) (λ u r. (first ≤ r.access) × (r.access < first + (many + more))) h.puts (λ u r w. (w.0, below r.access w.1)) h.within)
         (each_weaker (λ u r. (first + many ≤ r.access) × (r.access < first + many + more)) (λ u r. (first ≤ r.access) × (r.access < first + (many + more))) k.puts (λ u r w. (above r.access w.0, behind r.access w.1)) k.within);
@@ -178,7 +178,7 @@ module _ (x : BlockStep) (sites : ℕ → Option BlockSite) where
       upper a l = omega (arith, l, high)
 
   -- at one path
-  pub at_then : (first many more : ℕ) (IsAt : Put → Reach → Type 0) (Written : ℕ → Type 0) (a b c : Draft) → PutsAt x sites first many IsAt Written a b → PutsAt x sites (first + many) more IsAt Written b c → PutsAt x sites first (many + more) IsAt Written a c
+  pub at_then : (first many more : ℕ) (IsAt : OperationAtPath → Reach → Type 0) (Written : ℕ → Type 0) (a b c : Draft) → PutsAt x sites first many IsAt Written a b → PutsAt x sites (first + many) more IsAt Written b c → PutsAt x sites first (many + more) IsAt Written a c
   unfolding down_then
   at_then first many more IsAt Written a b c h k = record {
     down = down_then first many more a b c h.down k.down;
@@ -187,32 +187,32 @@ module _ (x : BlockStep) (sites : ℕ → Option BlockSite) where
   }
 
   -- behind what uses nothing, or before it
-  pub behind_none : (first count : ℕ) (IsAt : Put → Reach → Type 0) (Written : ℕ → Type 0) (a b c : Draft) → AddsNone a b → PutsAt x sites first count IsAt Written b c → PutsAt x sites first count IsAt Written a c
+  pub behind_none : (first count : ℕ) (IsAt : OperationAtPath → Reach → Type 0) (Written : ℕ → Type 0) (a b c : Draft) → AddsNone a b → PutsAt x sites first count IsAt Written b c → PutsAt x sites first count IsAt Written a c
   behind_none first count IsAt Written a b c h k =
       puts_wider x sites first count IsAt Written first (0 + count) Written a c (omega arith) (omega arith) (λ n w. w)
       (at_then first 0 count IsAt Written a b c (puts_added x sites first 0 IsAt Written a b h)
       (puts_wider x sites (first + 0) count IsAt Written first count Written b c (omega arith) (omega arith) (λ n w. w) k))
 
-  pub before_none : (first count : ℕ) (IsAt : Put → Reach → Type 0) (Written : ℕ → Type 0) (a b c : Draft) → PutsAt x sites first count IsAt Written a b → AddsNone b c → PutsAt x sites first count IsAt Written a c
+  pub before_none : (first count : ℕ) (IsAt : OperationAtPath → Reach → Type 0) (Written : ℕ → Type 0) (a b c : Draft) → PutsAt x sites first count IsAt Written a b → AddsNone b c → PutsAt x sites first count IsAt Written a c
   before_none first count IsAt Written a b c h k =
       puts_wider x sites first count IsAt Written first (count + 0) Written a c (omega arith) (omega arith) (λ n w. w)
       (at_then first count 0 IsAt Written a b c h (puts_added x sites (first + count) 0 IsAt Written b c k))
 
   -- the accesses of one path behind those of the paths before, where places rise
-  pub paths_then : (first count n : ℕ) (Led : Put → Reach → Type 0) (Written : ℕ → Type 0) → ((i j : ℕ) → Written i → Written j → i ≡ j)
-      → ((u v : Put) (r t : Reach) → u.path < v.path → v.path ≡ n → r.access ≡ t.access → IsUse x sites u r → Led u r → Led v t → PlacesRise x sites u v r t) → (a b c : Draft)
+  pub paths_then : (first count n : ℕ) (Led : OperationAtPath → Reach → Type 0) (Written : ℕ → Type 0) → ((i j : ℕ) → Written i → Written j → i ≡ j)
+      → ((u v : OperationAtPath) (r t : Reach) → u.path < v.path → v.path ≡ n → r.access ≡ t.access → IsSitedUse x sites u r → Led u r → Led v t → PlacesRise x sites u v r t) → (a b c : Draft)
       → PutsAt x sites first count (λ u r. (u.path < n) × Led u r) Written a b → PutsAt x sites first count (λ u r. (u.path ≡ n) × Led u r) Written b c → PutsAt x sites first count (λ u r. (u.path < n + 1) × Led u r) Written a c
   paths_then first count n Led Written one rises a b c h k = record {
     down = record {
       puts = h.down.puts ++ k.down.puts;
       adds = k.down.adds ∙ (ap (λ (os : List Operation). os ++ operations_of k.down.puts) h.down.adds
           ∙ (append_assoc a.operations.items (operations_of h.down.puts) (operations_of k.down.puts) ∙ ap (λ (os : List Operation). a.operations.items ++ os) (sym (operations_both h.down.puts k.down.puts))));
-      uses = each_both (IsUse x sites) h.down.puts k.down.puts h.down.uses k.down.uses;
+      uses = each_both (IsSitedUse x sites) h.down.puts k.down.puts h.down.uses k.down.uses;
       within = each_both (λ u r. (first ≤ r.access) × (r.access < first + count)) h.down.puts k.down.puts h.down.within k.down.within;
       order = order_both x sites h.down.puts k.down.puts h.down.order k.down.order
-          (go_by x sites (λ u r. ((u.path < n) × Led u r) × ((is_write u → Written r.access) × IsUse x sites u r)) (λ u r. ((u.path ≡ n) × Led u r) × (is_write u → Written r.access)) h.down.puts k.down.puts
+          (go_by x sites (λ u r. ((u.path < n) × Led u r) × ((is_write u → Written r.access) × IsSitedUse x sites u r)) (λ u r. ((u.path ≡ n) × Led u r) × (is_write u → Written r.access)) h.down.puts k.down.puts
           (λ u v r t w z. record { places = λ same. rises u v r t (less u.path v.path w.0.0 z.0.0) z.0.0 same w.1.1 w.0.1 z.0.1; writes = λ f g. inr (one r.access t.access (w.1.0 f) (z.1 g)) })
-          (each_two (λ u r. (u.path < n) × Led u r) (λ u r. (is_write u → Written r.access) × IsUse x sites u r) h.down.puts h.at (each_two (λ u r. is_write u → Written r.access) (IsUse x sites) h.down.puts h.written h.down.uses))
+          (each_two (λ u r. (u.path < n) × Led u r) (λ u r. (is_write u → Written r.access) × IsSitedUse x sites u r) h.down.puts h.at (each_two (λ u r. is_write u → Written r.access) (IsSitedUse x sites) h.down.puts h.written h.down.uses))
           (each_two (λ u r. (u.path ≡ n) × Led u r) (λ u r. is_write u → Written r.access) k.down.puts k.at k.written));
     };
     at = each_both (λ u r. (u.path < n + 1) × Led u r) h.down.puts k.down.puts

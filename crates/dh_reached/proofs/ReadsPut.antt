@@ -42,7 +42,7 @@ use Rattle.dh_commands.specs.ShownVariables.{level_factors}
 use Rattle.dh_blocks.specs.PathsOfLevels.{AreSpread}
 use Rattle.dh_blocks.proofs.PathNumbers.{kept, leader_within, leads, number_is}
 use Rattle.dh_laid.specs.LaidQuiet.{BlockStandsIn}
-use Rattle.dh_reached.specs.Puts.{AreSited, IsUse, Put, PutsAt}
+use Rattle.dh_reached.specs.Puts.{AreSitedAccesses, IsSitedUse, OperationAtPath, PutsAt}
 use Rattle.dh_reached.specs.ReachedBlocks.{StandsSpread}
 use Rattle.dh_reached.proofs.NoUses.{AddsNone, behind_none, none_again, none_counted, none_pushed, none_same, none_still, puts_added, puts_one}
 
@@ -61,7 +61,7 @@ all_lead levels spread counts all n below =
 module _ (x : BlockStep) (sites : ℕ → Option BlockSite) (scene : Scene) (around : Around) (stands : BlockStandsIn scene around) where
   -- one that gets its operations
   touch_sited : (memory : ℕ) (s : AccessStanding) (old new : Draft) (before after : Accesses) (number : ℕ) → TouchesAt scene around s old new before after number → sites number ≡ Some (record { memory = memory; standing = s })
-      → FitsStep x new → BlockBegun x old → AreSited x sites before → AreSited x sites after
+      → FitsStep x new → BlockBegun x old → AreSitedAccesses x sites before → AreSitedAccesses x sites after
   touch_sited memory s old new before after number t site f b h = record {
     touched = λ m u o at is.
         ⊎_elim (λ was. h.touched m u o was is)
@@ -74,7 +74,7 @@ module _ (x : BlockStep) (sites : ℕ → Option BlockSite) (scene : Scene) (aro
   }
 
   -- what a read gave is noted
-  notes_sited : (before after : Accesses) (number path value : ℕ) → Notes before after number path value → AreSited x sites before → AreSited x sites after
+  notes_sited : (before after : Accesses) (number path value : ℕ) → Notes before after number path value → AreSitedAccesses x sites before → AreSitedAccesses x sites after
   notes_sited before after number path value n h = record {
     touched = λ m u o at is. by m u o at is (place_noted before after number path value n m);
     there = λ m o is. subst (λ (l : ℕ). m < l) (sym (ap (λ (os : List (Option Touched)). length os) n.touched ∙ set_long before.touched.items number _)) (h.there m o is);
@@ -94,15 +94,15 @@ module _ (x : BlockStep) (sites : ℕ → Option BlockSite) (scene : Scene) (aro
 
 -- At a path.
 
-module _ (x : BlockStep) (sites : ℕ → Option BlockSite) (scene : Scene) (lane : Lane) (stands : StandsSpread scene lane.around) (within : lane.number < length lane.around.guards.now) (Led : Put → Reach → Type 0) where
+module _ (x : BlockStep) (sites : ℕ → Option BlockSite) (scene : Scene) (lane : Lane) (stands : StandsSpread scene lane.around) (within : lane.number < length lane.around.guards.now) (Led : OperationAtPath → Reach → Type 0) where
   -- at this path, where uses lead so
-  abbrev pub AtLane : Put → Reach → Type 0
+  abbrev pub AtLane : OperationAtPath → Reach → Type 0
   AtLane u r = (u.path ≡ lane.number) × Led u r
 
   -- what is put down at the path for accesses from a first one on, so many
   pub record PutsHere (first count : ℕ) (Written : ℕ → Type 0) (old new : Draft) (before after : Accesses) : Type 0 where
     pub puts : PutsAt x sites first count AtLane Written old new
-    pub sited : AreSited x sites after
+    pub sited : AreSitedAccesses x sites after
 
   -- the reach of an access by its values, with the banks of this path
   abbrev pub own_reach : (memory : ℕ) → Aim → AccessStanding → Reach
@@ -112,7 +112,7 @@ module _ (x : BlockStep) (sites : ℕ → Option BlockSite) (scene : Scene) (lan
   pub record ReachesAt (memory : ℕ) (aim : Aim) (s : AccessStanding) : Type 0 where
     pub listed : (spot : Spot) → spot_of_reach x.start x.first x.words (own_reach memory aim s) ≡ Some spot → IsListed spot.bank (s.places lane.number) (banks_at s lane.number)
     pub placed : (bank place : ℕ) → IsListed bank place (banks_at s lane.number) → place ≡ s.places lane.number
-    pub led : (u : Put) → u.path ≡ lane.number → Led u (own_reach memory aim s)
+    pub led : (u : OperationAtPath) → u.path ≡ lane.number → Led u (own_reach memory aim s)
 
   module _ (access : plain.Term) (memory : ℕ) (aim : Aim) (writes : Truth) where
     abbrev stood : AccessStanding
@@ -176,7 +176,7 @@ module _ (x : BlockStep) (sites : ℕ → Option BlockSite) (scene : Scene) (lan
         → PutsAt x sites aim.number 1 AtLane (λ n. ⊥) d e
     read_pushed d e a t v is laid leading p =
         puts_one x sites aim.number 1 AtLane (λ n. ⊥) d e v lane.number (copied_in a aim.number lane.number).guard (Read told_reach) p (λ r u. subst (λ (k : Reach). AtLane put k) (some_same told_reach r u) (refl, led_so))
-        (λ r u. subst (λ (k : Reach). IsUse x sites put k) (some_same told_reach r u) is_used)
+        (λ r u. subst (λ (k : Reach). IsSitedUse x sites put k) (some_same told_reach r u) is_used)
         (λ r u. subst (λ (k : Reach). (aim.number ≤ k.access) × (k.access < aim.number + 1)) (some_same told_reach r u) (own_within aim.number)) (λ r u w. absurd w)
       where
         told_reach : Reach
@@ -185,13 +185,13 @@ module _ (x : BlockStep) (sites : ℕ → Option BlockSite) (scene : Scene) (lan
         told_same : own_reach memory aim own ≡ told_reach
         told_same = ap (λ (bs : List (ℕ × ℕ)). reach_told memory aim bs) (sym (banks_are access memory aim false a t is laid))
 
-        put : Put
+        put : OperationAtPath
         put = record { operation = record { guard = (copied_in a aim.number lane.number).guard; form = Read told_reach }; path = lane.number }
 
         led_so : Led put told_reach
         led_so = subst (λ (k : Reach). Led put k) told_same (reaches.led put refl)
 
-        is_used : IsUse x sites put told_reach
+        is_used : IsSitedUse x sites put told_reach
         is_used = record {
           site = site access memory aim false;
           there = at;
@@ -253,7 +253,7 @@ module _ (x : BlockStep) (sites : ℕ → Option BlockSite) (scene : Scene) (lan
               let found = given_here a earlier lane.number (shares earlier e1) in
               found_puts (given_in a earlier lane.number) found.0 found.1 h
 
-    module _ (old new : Draft) (before after : Accesses) (v : ℕ) (m : MadeRead scene lane access memory aim old new before after v) (f : FitsStep x new) (b : BlockBegun x old) (h : AreSited x sites before)
+    module _ (old new : Draft) (before after : Accesses) (v : ℕ) (m : MadeRead scene lane access memory aim old new before after v) (f : FitsStep x new) (b : BlockBegun x old) (h : AreSitedAccesses x sites before)
         (next : AreNext scene lane before aim.number 1) where
       pushed : Extends m.first m.second
       pushed = pushed_extends m.first m.second _ _ _ m.probes
@@ -261,7 +261,7 @@ module _ (x : BlockStep) (sites : ℕ → Option BlockSite) (scene : Scene) (lan
       found : Extends m.second new
       found = found_extends scene (form_of access) m.second new memory aim (copied_in m.middle aim.number lane.number) (given_by m.middle (source_at (slice_get scene.shares.now aim.number) aim.number lane.number (copied_in m.middle aim.number lane.number).leader)) v m.finds
 
-      middle_sited : AreSited x sites m.middle
+      middle_sited : AreSitedAccesses x sites m.middle
       middle_sited = touch_sited x sites scene lane.around stands.stands memory own old m.first before m.middle aim.number m.touches at (fits_before m.first new x (extends_again m.first m.second new pushed found) f) b h
 
       touched : (t : Touched) × (touched_in m.middle aim.number ≡ Some t)
@@ -306,7 +306,7 @@ module _ (x : BlockStep) (sites : ℕ → Option BlockSite) (scene : Scene) (lan
 
   -- A write.
   module _ (access : plain.Term) (memory : ℕ) (aim : Aim) (at : sites aim.number ≡ Some (site access memory aim true)) (reaches : ReachesAt memory aim (stood access memory aim true)) (old new : Draft) (before after : Accesses) (value : ℕ)
-      (m : MadeWrite scene lane access memory aim value old new before after) (f : FitsStep x new) (b : BlockBegun x old) (h : AreSited x sites before) where
+      (m : MadeWrite scene lane access memory aim value old new before after) (f : FitsStep x new) (b : BlockBegun x old) (h : AreSitedAccesses x sites before) where
     abbrev put_own : AccessStanding
     put_own = stood access memory aim true
 
@@ -316,7 +316,7 @@ module _ (x : BlockStep) (sites : ℕ → Option BlockSite) (scene : Scene) (lan
     write_pushed : Extends m.second new
     write_pushed = pushed_extends m.second new m.number _ _ m.writes
 
-    write_sited : AreSited x sites after
+    write_sited : AreSitedAccesses x sites after
     write_sited = touch_sited x sites scene lane.around stands.stands memory put_own old m.first before after aim.number m.touches at (fits_before m.first new x (extends_again m.first m.second new write_probed write_pushed) f) b h
 
     write_touched : (t : Touched) × (touched_in after aim.number ≡ Some t)
@@ -334,7 +334,7 @@ module _ (x : BlockStep) (sites : ℕ → Option BlockSite) (scene : Scene) (lan
           (none_again old m.first m.second (touch_none access memory aim true old m.first before after m.touches) (none_pushed m.first m.second _ _ _ m.probes tt))
           (puts_one x sites aim.number 1 AtLane (λ n. n ≡ aim.number) m.second new m.number lane.number (lane_guard lane) (Write told_reach value) m.writes
           (λ r u. subst (λ (k : Reach). AtLane put k) (some_same told_reach r u) (refl, led_so))
-          (λ r u. subst (λ (k : Reach). IsUse x sites put k) (some_same told_reach r u) is_used)
+          (λ r u. subst (λ (k : Reach). IsSitedUse x sites put k) (some_same told_reach r u) is_used)
           (λ r u. subst (λ (k : Reach). (aim.number ≤ k.access) × (k.access < aim.number + 1)) (some_same told_reach r u) (own_within aim.number))
           (λ r u w. subst (λ (k : Reach). k.access ≡ aim.number) (some_same told_reach r u) refl));
       sited = write_sited;
@@ -346,13 +346,13 @@ module _ (x : BlockStep) (sites : ℕ → Option BlockSite) (scene : Scene) (lan
         told_same : own_reach memory aim put_own ≡ told_reach
         told_same = ap (λ (bs : List (ℕ × ℕ)). reach_told memory aim bs) (sym (banks_are access memory aim true after write_touched.0 write_touched.1 write_laid))
 
-        put : Put
+        put : OperationAtPath
         put = record { operation = record { guard = lane_guard lane; form = Write told_reach value }; path = lane.number }
 
         led_so : Led put told_reach
         led_so = subst (λ (k : Reach). Led put k) told_same (reaches.led put refl)
 
-        is_used : IsUse x sites put told_reach
+        is_used : IsSitedUse x sites put told_reach
         is_used = record {
           site = site access memory aim true;
           there = at;

@@ -14,7 +14,7 @@ use Rattle.dh_expressions.specs.Drafted.{BlockStep, holds}
 use Rattle.dh_expressions.proofs.ListPlaces.{some_same}
 use Rattle.dh_formed.specs.Formed.{BlockSite}
 use Rattle.dh_blocks.specs.BlockMade.{step_of_block}
-use Rattle.dh_reached.specs.Puts.{IsUse, Put, is_write, used}
+use Rattle.dh_reached.specs.Puts.{IsSitedUse, OperationAtPath, is_write, used_reach}
 use Rattle.dh_reached.specs.StepBanks.{BlockUses, BlocksKeepBanks, NeverBoth, StandInOrder}
 use Rattle.dh_reached.proofs.PutLists.{all_at, goes_at, put_at}
 
@@ -33,10 +33,10 @@ module _ (plan : PlainPlan) (block : ℕ) (registers : List ℕ) (memories : Lis
 
   -- an operation of the block that reaches an element, as it was put down
   record Found (i : ℕ) (r : Reach) (spot : Spot) : Type 0 where
-    put : Put
+    put : OperationAtPath
     at : slice_get u.puts i ≡ Some put
-    uses : used put ≡ Some r
-    is : IsUse x sites put r
+    uses : used_reach put ≡ Some r
+    is : IsSitedUse x sites put r
     on : holds x put.operation.guard
     leads : spot_of_reach x.start x.first x.words r ≡ Some spot
 
@@ -46,8 +46,8 @@ module _ (plan : PlainPlan) (block : ℕ) (registers : List ℕ) (memories : Lis
       own : Reaches plan begun (block ∷ []) block i r spot → Found i r spot
       own k =
           let p = put_at u.puts i k.operation (subst (λ (os : List Operation). slice_get os i ≡ Some k.operation) u.all k.there) in
-          let uses : used p.0 ≡ Some r = ap (λ (o : Operation). use_in o.form) p.1.1 ∙ k.uses in
-          let is : IsUse x sites p.0 r = all_at (λ v. (r : Reach) → used v ≡ Some r → IsUse x sites v r) u.puts i p.0 u.uses p.1.0 r uses in
+          let uses : used_reach p.0 ≡ Some r = ap (λ (o : Operation). use_in o.form) p.1.1 ∙ k.uses in
+          let is : IsSitedUse x sites p.0 r = all_at (λ v. (r : Reach) → used_reach v ≡ Some r → IsSitedUse x sites v r) u.puts i p.0 u.uses p.1.0 r uses in
           record {
             put = p.0;
             at = p.1.0;
@@ -94,7 +94,7 @@ module _ (plan : PlainPlan) (block : ℕ) (registers : List ℕ) (memories : Lis
   written b i r spot h f w =
       let p = put_at u.puts i w.operation (subst (λ (os : List Operation). slice_get os i ≡ Some w.operation) u.all (subst (λ (n : ℕ). slice_get (operations_in plan n) i ≡ Some w.operation) (only b h.active) w.there)) in
       let same : p.0 ≡ f.put = some_same p.0 f.put (sym p.1.0 ∙ f.at) in
-      subst (λ (v : Put). is_write v) same (subst (λ (o : Operation). writes_memory o.form) (sym p.1.1) w.writes)
+      subst (λ (v : OperationAtPath). is_write v) same (subst (λ (o : Operation). writes_memory o.form) (sym p.1.1) w.writes)
 
   module _ (order : StandInOrder plan.meets) (known : (number : ℕ) (s : BlockSite) → sites number ≡ Some s → In number plan.meets) (apart : NeverBoth plan.meets x sites) where
     ordered : (b i c j : ℕ) (r t : Reach) (y z : Spot) → Reaches plan begun (block ∷ []) b i r y → Reaches plan begun (block ∷ []) c j t z → InOneBank y z → WritesAt plan b i → WritesAt plan c j

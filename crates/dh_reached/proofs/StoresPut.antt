@@ -39,7 +39,7 @@ use Rattle.dh_laid.specs.Laid.{aim_accesses}
 use Rattle.dh_laid.specs.LaidNumbers.{IsAccessForm}
 use Rattle.dh_laid.proofs.AccessesLaid.{aim_lays, storing_lays, term_lays, terms_lay}
 use Rattle.dh_reached.specs.IndicesKept.{FormKeeps, TermKeeps}
-use Rattle.dh_reached.specs.Puts.{AreSited, Put, PutsAt}
+use Rattle.dh_reached.specs.Puts.{AreSitedAccesses, OperationAtPath, PutsAt}
 use Rattle.dh_reached.proofs.LanesPut.{LaneDone, held_none}
 use Rattle.dh_reached.proofs.NoUses.{at_then, behind_none, puts_wider}
 use Rattle.dh_reached.specs.ReachedBlocks.{StandsSpread}
@@ -58,10 +58,10 @@ module _ (x : BlockStep) (sites : ℕ → Option BlockSite) (scene : Scene) (tab
   abbrev lane : Lane
   lane = lane_of around n
 
-  abbrev Led : Put → Reach → Type 0
+  abbrev Led : OperationAtPath → Reach → Type 0
   Led = IsLed x scene around start sites ways
 
-  abbrev At : Put → Reach → Type 0
+  abbrev At : OperationAtPath → Reach → Type 0
   At = AtLane x sites scene (lane_of around n) stands within Led
 
   abbrev DoneHere : (first count : ℕ) → (old new : Draft) → (before after : Accesses) → Type 0
@@ -192,7 +192,7 @@ module _ (x : BlockStep) (sites : ℕ → Option BlockSite) (scene : Scene) (tab
 
     pub stored_lane : (form : plain.TermForm) (k : ℕ) → IsAccessForm form → MadeStored scene (lane_of around n) first (plain.term place j form) t b d k → first + (term_accesses t + form_accesses form) < 2 ^ 32
         → SitesAt sites first (term_sites scene around t ++ target_sites scene around (plain.term place j form)) → SitesAt ways first (term_ways scene t ++ target_ways scene (plain.term place j form)) → TermKeeps x scene around.levels.now Sets t → FormKeeps x scene around.levels.now Sets form → FitsStep x d.draft → BlockBegun x b.draft
-        → AreSited x sites b.accesses → AreNext scene (lane_of around n) b.accesses first (term_accesses t + aim_accesses form)
+        → AreSitedAccesses x sites b.accesses → AreNext scene (lane_of around n) b.accesses first (term_accesses t + aim_accesses form)
         → LaneDone x sites scene table IsRead paths ways start Sets around n first (term_accesses t + aim_accesses form + 1) (term_accesses t + aim_accesses form) (IsLast first (term_accesses t + aim_accesses form)) b d
     stored_lane form k is m few at wat value_keeps keeps f s sited next =
         let small : first + term_accesses t < 2 ^ 32 = omega (arith, few) in

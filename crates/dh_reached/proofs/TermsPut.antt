@@ -43,7 +43,7 @@ use Rattle.dh_formed.proofs.ValuesFormed.{operation_forms}
 use Rattle.dh_laid.specs.BlockSites.{term_sites, terms_sites}
 use Rattle.dh_laid.proofs.AccessesLaid.{converted_extends, read_lays, term_lays, terms_lay}
 use Rattle.dh_reached.specs.IndicesKept.{TermKeeps, TermsKeep}
-use Rattle.dh_reached.specs.Puts.{AreSited, Put}
+use Rattle.dh_reached.specs.Puts.{AreSitedAccesses, OperationAtPath}
 use Rattle.dh_reached.proofs.LedUses.{IsLed}
 use Rattle.dh_reached.proofs.NoUses.{AddsNone, at_then, before_none, none_counted, none_pushed, none_still, puts_added}
 use Rattle.dh_reached.specs.ReachedBlocks.{StandsSpread}
@@ -149,10 +149,10 @@ way_none scene lane current way first old new steps m =
 
 module _ (x : BlockStep) (sites : ℕ → Option BlockSite) (scene : Scene) (lane : Lane) (stands : StandsSpread scene lane.around) (within : lane.number < length lane.around.guards.now)
     (table : x.start.table ≡ table_of (program_seen scene.program.now)) (ways : ℕ → Option (Option Way)) (start : List (Option ℕ)) where
-  abbrev pub Led : Put → Reach → Type 0
+  abbrev pub Led : OperationAtPath → Reach → Type 0
   Led = IsLed x scene lane.around start sites ways
 
-  abbrev At : Put → Reach → Type 0
+  abbrev At : OperationAtPath → Reach → Type 0
   At = AtLane x sites scene lane stands within Led
 
   -- what is put down for accesses from a first one on, so many, that give at this path
@@ -160,9 +160,9 @@ module _ (x : BlockStep) (sites : ℕ → Option BlockSite) (scene : Scene) (lan
     pub here : PutsHere x sites scene lane stands within Led first count (λ n. ⊥) old new before after
     pub given : HaveGiven lane before after first count
 
-  pub done_none : (first : ℕ) (old new : Draft) (before after : Accesses) → AddsNone old new → after ≡ before → AreSited x sites before → Done first 0 old new before after
+  pub done_none : (first : ℕ) (old new : Draft) (before after : Accesses) → AddsNone old new → after ≡ before → AreSitedAccesses x sites before → Done first 0 old new before after
   done_none first old new before after h same sited = record {
-    here = record { puts = puts_added x sites first 0 At (λ n. ⊥) old new h; sited = subst (λ (a : Accesses). AreSited x sites a) (sym same) sited };
+    here = record { puts = puts_added x sites first 0 At (λ n. ⊥) old new h; sited = subst (λ (a : Accesses). AreSitedAccesses x sites a) (sym same) sited };
     given = given_none scene lane before after first same;
   }
 
@@ -187,11 +187,11 @@ module _ (x : BlockStep) (sites : ℕ → Option BlockSite) (scene : Scene) (lan
   module _ (current : List (Option ℕ)) (Sets : ℕ → Type 0) (stays : Stays scene lane.around Sets start current) where
     abbrev TermDone : plain.Term → Type 0
     TermDone t = (old new : Draft) (before after : Accesses) (n next v : ℕ) → MadeTerm scene lane current t old new before after n next v → n + term_accesses t < 2 ^ 32 → SitesAt sites n (term_sites scene lane.around t)
-        → SitesAt ways n (term_ways scene t) → TermKeeps x scene lane.around.levels.now Sets t → FitsStep x new → BlockBegun x old → AreSited x sites before → AreNext scene lane before n (term_accesses t) → Done n (term_accesses t) old new before after
+        → SitesAt ways n (term_ways scene t) → TermKeeps x scene lane.around.levels.now Sets t → FitsStep x new → BlockBegun x old → AreSitedAccesses x sites before → AreNext scene lane before n (term_accesses t) → Done n (term_accesses t) old new before after
 
     abbrev TermsDone : plain.Terms → Type 0
     TermsDone ts = (old new : Draft) (before after : Accesses) (n next : ℕ) (vs : List ℕ) → MadeTerms scene lane current ts old new before after n next vs → n + terms_accesses ts < 2 ^ 32 → SitesAt sites n (terms_sites scene lane.around ts)
-        → SitesAt ways n (terms_ways scene ts) → TermsKeep x scene lane.around.levels.now Sets ts → FitsStep x new → BlockBegun x old → AreSited x sites before → AreNext scene lane before n (terms_accesses ts) → Done n (terms_accesses ts) old new before after
+        → SitesAt ways n (terms_ways scene ts) → TermsKeep x scene lane.around.levels.now Sets ts → FitsStep x new → BlockBegun x old → AreSitedAccesses x sites before → AreNext scene lane before n (terms_accesses ts) → Done n (terms_accesses ts) old new before after
 
     -- an access behind the parts that name its element
     access_then : (access : plain.Term) (memory : ℕ) (aim : Aim) (old middle new : Draft) (before between after : Accesses) (n count v : ℕ) → aim.number ≡ n + count → Done n count old middle before between

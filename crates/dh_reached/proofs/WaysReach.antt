@@ -57,7 +57,7 @@ use Rattle.dh_expressions.specs.Standings.{AccessStanding, banks_at, standing_at
 use Rattle.dh_expressions.proofs.Pushing.{begun_later, computes, extends_again, extends_self, fits_before, pushed_extends}
 use Rattle.dh_formed.specs.Formed.{BlockSite}
 use Rattle.dh_reached.specs.IndicesKept.{HiddenKept, IndicesKeep, WayKept}
-use Rattle.dh_reached.specs.Puts.{Put}
+use Rattle.dh_reached.specs.Puts.{OperationAtPath}
 use Rattle.dh_reached.specs.ReachedBlocks.{StandsSpread}
 use Rattle.dh_reached.proofs.IndicesReach.{bank_small, indices_bank, row_reaches}
 use Rattle.dh_reached.proofs.LedUses.{CountsBy, IsKeptSo, IsLed, LeadsFrom, kept_shown}
@@ -164,7 +164,7 @@ module _ (x : BlockStep) (sites : ℕ → Option BlockSite) (scene : Scene) (lan
   abbrev levels : List Level
   levels = lane.around.levels.now
 
-  abbrev Led : Put → Reach → Type 0
+  abbrev Led : OperationAtPath → Reach → Type 0
   Led = IsLed x scene lane.around start sites ways
 
   abbrev Reaches : (memory : ℕ) → Aim → AccessStanding → Type 0
@@ -238,7 +238,7 @@ module _ (x : BlockStep) (sites : ℕ → Option BlockSite) (scene : Scene) (lan
         counts o e path = ap (λ w. places_by s.leader s.bank (λ p. groups_by levels (shifts_on w) p) path) e
 
         led_by : (o : Option Way) → way_of (known_in scene) r ≡ o
-            → ((spot : Spot) → spot_of_reach x.start x.first x.words (own_reach x sites scene lane stands within Led memory aim s) ≡ Some spot → LeadsFrom x scene lane.around start o site lane.number spot.bank) → (u : Put) → u.path ≡ lane.number
+            → ((spot : Spot) → spot_of_reach x.start x.first x.words (own_reach x sites scene lane stands within Led memory aim s) ≡ Some spot → LeadsFrom x scene lane.around start o site lane.number spot.bank) → (u : OperationAtPath) → u.path ≡ lane.number
             → Led u (own_reach x sites scene lane stands within Led memory aim s)
         led_by o e leads u here = record {
           way = o;

@@ -18,29 +18,29 @@ use Rattle.dh_expressions.specs.Standings.{IsTouched}
 use Rattle.dh_formed.specs.Formed.{BlockSite}
 
 -- an operation, and the path for which it was put down
-pub record Put : Type 0 where
+pub record OperationAtPath : Type 0 where
   pub operation : Operation
   pub path : ℕ
 
-abbrev pub used : Put → Option Reach
-used u = use_in u.operation.form
+abbrev pub used_reach : OperationAtPath → Option Reach
+used_reach u = use_in u.operation.form
 
-abbrev pub is_write : Put → Type 0
+abbrev pub is_write : OperationAtPath → Type 0
 is_write u = writes_memory u.operation.form
 
-abbrev pub operations_of : List Put → List Operation
-operations_of us = map (λ (u : Put). u.operation) us
+abbrev pub operations_of : List OperationAtPath → List Operation
+operations_of us = map (λ (u : OperationAtPath). u.operation) us
 
 -- so of all that read or write
-abbrev pub EachUse : (Put → Reach → Type 0) → List Put → Type 0
-EachUse P us = AllByRecursion (λ u. (r : Reach) → used u ≡ Some r → P u r) us
+abbrev pub EachUse : (OperationAtPath → Reach → Type 0) → List OperationAtPath → Type 0
+EachUse P us = AllByRecursion (λ u. (r : Reach) → used_reach u ≡ Some r → P u r) us
 
 -- Uses.
 
 -- A read or a write, in a step: of an access that stands in the block, by a path that leads, with the place of that path on
 -- each bank that it lists. Where its guard holds that of a path does which it leads, and where it is in range it reaches
 -- one of these banks.
-pub record IsUse (x : BlockStep) (sites : ℕ → Option BlockSite) (u : Put) (r : Reach) : Type 0 where
+pub record IsSitedUse (x : BlockStep) (sites : ℕ → Option BlockSite) (u : OperationAtPath) (r : Reach) : Type 0 where
   pub site : BlockSite
   pub there : sites r.access ≡ Some site
   pub memory_is : r.memory ≡ narrowed site.memory
@@ -54,41 +54,41 @@ pub record IsUse (x : BlockStep) (sites : ℕ → Option BlockSite) (u : Put) (r
 -- Order.
 
 -- where both reach one bank the earlier has the smaller place
-abbrev pub PlacesRise : BlockStep → (sites : ℕ → Option BlockSite) → (a b : Put) → (r t : Reach) → Type 0
+abbrev pub PlacesRise : BlockStep → (sites : ℕ → Option BlockSite) → (a b : OperationAtPath) → (r t : Reach) → Type 0
 PlacesRise x sites a b r t =
     (y z : Spot) → spot_of_reach x.start x.first x.words r ≡ Some y → spot_of_reach x.start x.first x.words t ≡ Some z → y.bank ≡ z.bank
     → (s : BlockSite) → sites r.access ≡ Some s → s.standing.places a.path < s.standing.places b.path
 
 -- of two uses of one access the earlier is for an earlier path; of two writes it is of an earlier access, or that
-pub record GoesBefore (x : BlockStep) (sites : ℕ → Option BlockSite) (a b : Put) (r t : Reach) : Type 0 where
+pub record GoesBefore (x : BlockStep) (sites : ℕ → Option BlockSite) (a b : OperationAtPath) (r t : Reach) : Type 0 where
   pub places : r.access ≡ t.access → PlacesRise x sites a b r t
   pub writes : is_write a → is_write b → (r.access < t.access) ⊎ (r.access ≡ t.access)
 
-abbrev pub Goes : BlockStep → (sites : ℕ → Option BlockSite) → Put → Put → Type 0
-Goes x sites a b = (r t : Reach) → used a ≡ Some r → used b ≡ Some t → GoesBefore x sites a b r t
+abbrev pub UseGoesBefore : BlockStep → (sites : ℕ → Option BlockSite) → OperationAtPath → OperationAtPath → Type 0
+UseGoesBefore x sites a b = (r t : Reach) → used_reach a ≡ Some r → used_reach b ≡ Some t → GoesBefore x sites a b r t
 
-abbrev pub AreInOrder : BlockStep → (sites : ℕ → Option BlockSite) → List Put → Type 0
+abbrev pub AreInOrder : BlockStep → (sites : ℕ → Option BlockSite) → List OperationAtPath → Type 0
 AreInOrder x sites [] = Unit {0}
-AreInOrder x sites (u ∷ us) = AllByRecursion (Goes x sites u) us × AreInOrder x sites us
+AreInOrder x sites (u ∷ us) = AllByRecursion (UseGoesBefore x sites u) us × AreInOrder x sites us
 
 -- Parts of a block.
 
 -- what was added uses accesses from a first one on, so many, in order
 pub record PutsDown (x : BlockStep) (sites : ℕ → Option BlockSite) (first count : ℕ) (old new : Draft) : Type 0 where
-  pub puts : List Put
+  pub puts : List OperationAtPath
   pub adds : new.operations.items ≡ old.operations.items ++ operations_of puts
-  pub uses : EachUse (IsUse x sites) puts
+  pub uses : EachUse (IsSitedUse x sites) puts
   pub within : EachUse (λ u r. (first ≤ r.access) × (r.access < first + count)) puts
   pub order : AreInOrder x sites puts
 
 -- the same with what more holds of each use, as at which path it is; the accesses that are written are told
-pub record PutsAt (x : BlockStep) (sites : ℕ → Option BlockSite) (first count : ℕ) (IsAt : Put → Reach → Type 0) (IsWritten : (access : ℕ) → Type 0) (old new : Draft) : Type 0 where
+pub record PutsAt (x : BlockStep) (sites : ℕ → Option BlockSite) (first count : ℕ) (IsAt : OperationAtPath → Reach → Type 0) (IsWritten : (access : ℕ) → Type 0) (old new : Draft) : Type 0 where
   pub down : PutsDown x sites first count old new
   pub at : EachUse IsAt down.puts
   pub written : EachUse (λ u r. is_write u → IsWritten r.access) down.puts
 
 -- Accesses with operations are as they stand, in this step.
-pub record AreSited (x : BlockStep) (sites : ℕ → Option BlockSite) (a : Accesses) : Type 0 where
+pub record AreSitedAccesses (x : BlockStep) (sites : ℕ → Option BlockSite) (a : Accesses) : Type 0 where
   pub touched : (number : ℕ) (t : Touched) (s : BlockSite) → touched_in a number ≡ Some t → sites number ≡ Some s → IsTouched x s.standing t
   pub there : (number : ℕ) (s : BlockSite) → sites number ≡ Some s → number < length a.touched.items
   pub none : AreNone a.counts.items

@@ -9,8 +9,8 @@ use Rattle.dh_formed.specs.Formed.{BlockSite}
 use Rattle.dh_laid.specs.Laid.{aim_accesses}
 
 -- none of these numbers, so many from a first one on, is a read
-abbrev pub NoneReads : (IsRead : ℕ → Type 0) → (first count : ℕ) → Type 0
-NoneReads IsRead first count = (e : ℕ) → first ≤ e → e < first + count → IsRead e → ⊥
+abbrev pub NoReadAmong : (IsRead : ℕ → Type 0) → (first count : ℕ) → Type 0
+NoReadAmong IsRead first count = (e : ℕ) → first ≤ e → e < first + count → IsRead e → ⊥
 
 module _ (IsRead : ℕ → Type 0) where
   abbrev mutual
@@ -28,8 +28,8 @@ module _ (IsRead : ℕ → Type 0) where
     ActionReads (lets_memory name shape shape_places value) first = Unit {0}
     ActionReads (views name parent form) first = Unit {0}
     ActionReads (calls function arguments) first = Unit {0}
-    ActionReads (repeats test body) first = NoneReads IsRead first (term_accesses test + accesses_of body)
-    ActionReads (counts iterator declared low high factor body combine combine_place) first = NoneReads IsRead first (0 + (accesses_of body + other_accesses combine))
+    ActionReads (repeats test body) first = NoReadAmong IsRead first (term_accesses test + accesses_of body)
+    ActionReads (counts iterator declared low high factor body combine combine_place) first = NoReadAmong IsRead first (0 + (accesses_of body + other_accesses combine))
 
     pub OtherReads : MaybeAction → (first : ℕ) → Type 0
     OtherReads no_action first = Unit {0}

@@ -9,13 +9,13 @@ use Rattle.dh_expressions.specs.Copying.{DoneBy}
 use Rattle.dh_expressions.specs.Drafted.{BlockStep}
 use Rattle.dh_formed.specs.Formed.{BlockSite}
 use Rattle.dh_blocks.specs.BlockMade.{step_of_block}
-use Rattle.dh_reached.specs.Puts.{AreInOrder, EachUse, IsUse, Put, operations_of}
+use Rattle.dh_reached.specs.Puts.{AreInOrder, EachUse, IsSitedUse, OperationAtPath, operations_of}
 
 -- What a block reads and writes in a step, whole.
 pub record BlockUses (plan : PlainPlan) (block : ℕ) (x : BlockStep) (sites : ℕ → Option BlockSite) : Type 0 where
-  pub puts : List Put
+  pub puts : List OperationAtPath
   pub all : operations_in plan block ≡ operations_of puts
-  pub uses : EachUse (IsUse x sites) puts
+  pub uses : EachUse (IsSitedUse x sites) puts
   pub order : AreInOrder x sites puts
 
 -- accesses in a tree stand in the order of their numbers

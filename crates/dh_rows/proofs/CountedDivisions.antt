@@ -14,7 +14,7 @@ use Rattle.dh_tree.proofs.BankElements.{whole}
 use Rattle.dh_plan.specs.declared.operations.Operation.{Operation}
 use Rattle.dh_plan.specs.declared.operations.OperationForm.TheVariants.{Select}
 use Rattle.dh_rows.specs.Readings.{Readings, Obeys}
-use Rattle.dh_rows.specs.MadeOperations.{Made, Summed, Taken, Divided, constant_made, computed, converted, selected, computed_with, bits_in, power_in, twice, taken, taken_last, taken_bit, taken_rest, taken_less, taken_held, taken_part, taken_below, division, divided_long, low_made, divided_by_power, divided_some, divided}
+use Rattle.dh_rows.specs.MadeOperations.{Made, Summed, Taken, Divided, constant_made, computed, converted, selected, computed_with, bits_in, power_in, value_doubled, constant_taken, taken_last, taken_bit, taken_rest, taken_less, taken_held, taken_part, taken_below, division, divided_long, low_made, divided_by_power, divided_some, divided}
 use Rattle.dh_rows.proofs.Growing.{obeys_before, obeys_plain, plain_grows, pushed_word, pushed_grows}
 use Rattle.dh_rows.proofs.PutBehind.{with_behind, twice_behind, last_behind, bit_taken_behind, rest_behind, less_behind, held_behind, part_behind, taken_behind, long_behind, low_behind}
 use Rattle.dh_rows.proofs.PutSpread.{FitsWidth}
@@ -42,7 +42,7 @@ left_number true rest part = rest - part
 left_number false rest part = rest
 
 module _ (x : Readings) (width : ℕ) where
-  twice_counts : (os : List Operation) → x.first ≤ length os → (value : Option ℕ) (n : ℕ) → n * 2 < 2 ^ width → CountsOr x width value n → Obeys x (twice os value).operations → CountsOr x width (twice os value).sum (n * 2)
+  twice_counts : (os : List Operation) → x.first ≤ length os → (value : Option ℕ) (n : ℕ) → n * 2 < 2 ^ width → CountsOr x width value n → Obeys x (value_doubled os value).operations → CountsOr x width (value_doubled os value).sum (n * 2)
   twice_counts os begun None n fits is h = ap (λ m. m * 2) is
   twice_counts os begun (Some value) n fits is h = shifted_counts x width os begun value 1 n fits is h
 
@@ -53,8 +53,8 @@ module _ (x : Readings) (width : ℕ) where
   bit_taken_counts : (quotient : Option ℕ) (rest : ℕ) (bit : Made) → x.first ≤ length bit.operations → (q b r : ℕ) → q * 2 + b < 2 ^ width → CountsOr x width quotient q → Counts x width bit.value b → Counts x width rest r
       → Obeys x (taken_bit quotient rest bit).operations → CountsTaken x width (taken_bit quotient rest bit) (q * 2 + b) r
   bit_taken_counts quotient rest bit begun q b r fits s is r_is h =
-      last_counts rest bit.value (twice bit.operations quotient) (begun_behind x bit.operations _ (plain_grows _ _ (twice_behind bit.operations quotient)) begun) (q * 2) b r fits
-      (twice_counts bit.operations begun quotient q (omega (arith, fits)) s (obeys_plain x _ _ (last_behind rest bit.value (twice bit.operations quotient)) h)) is r_is h
+      last_counts rest bit.value (value_doubled bit.operations quotient) (begun_behind x bit.operations _ (plain_grows _ _ (twice_behind bit.operations quotient)) begun) (q * 2) b r fits
+      (twice_counts bit.operations begun quotient q (omega (arith, fits)) s (obeys_plain x _ _ (last_behind rest bit.value (value_doubled bit.operations quotient)) h)) is r_is h
 
   bit_small : (t : Bool) → bit_number t ≤ 1
   bit_small true = omega arith
@@ -102,8 +102,8 @@ module _ (x : Readings) (width : ℕ) where
       ∙ (ap (λ w. binary_of op.Ge w (x.word part.value)) r_is ∙ ap (λ w. binary_of op.Ge (with_bits (kind.Unsigned width) r) w) p_is)) r_is p_is h
 
   taken_counts : (os : List Operation) → x.first ≤ length os → (quotient : Option ℕ) (rest part q r : ℕ) → q * 2 + 1 < 2 ^ width → r < 2 ^ width → CountsOr x width quotient q → Counts x width rest r
-      → Obeys x (taken os width quotient rest part).operations
-      → CountsTaken x width (taken os width quotient rest part) (q * 2 + bit_number (nat_le part r)) (left_number (nat_le part r) r part)
+      → Obeys x (constant_taken os width quotient rest part).operations
+      → CountsTaken x width (constant_taken os width quotient rest part) (q * 2 + bit_number (nat_le part r)) (left_number (nat_le part r) r part)
   taken_counts os begun quotient rest part q r fits small s r_is h =
       part_counts quotient rest (constant_made os width part) (begun_behind x os _ (pushed_grows os None _) begun) q r part fits small s r_is
       (constant_shows x os begun width part (obeys_plain x _ _ (part_behind width quotient rest (constant_made os width part)) h)) h
@@ -143,7 +143,7 @@ module _ (x : Readings) (width : ℕ) where
         one : (b : ℕ) → b * 2 ^ 0 ≡ b
         one b = omega arith
     long_counts (suc by) os begun quotient rest q r v fits e l small s r_is h =
-        long_counts by (taken os width quotient rest part).operations (begun_behind x os _ (plain_grows _ _ (taken_behind os width quotient rest part)) begun) (taken os width quotient rest part).quotient (taken os width quotient rest part).rest
+        long_counts by (constant_taken os width quotient rest part).operations (begun_behind x os _ (plain_grows _ _ (taken_behind os width quotient rest part)) begun) (constant_taken os width quotient rest part).quotient (constant_taken os width quotient rest part).rest
         (q * 2 + bit_number (nat_le p r)) (left_number (nat_le p r) r p) v (λ i m. fits i (omega (arith, m))) (e2 ∙ sym (left_same (nat_le p r) q p r refl)) (left_small (nat_le p r) p r refl l2) small told.quotient_is told.rest_is h
       where
         part : ℕ
@@ -158,16 +158,16 @@ module _ (x : Readings) (width : ℕ) where
         l2 : r < banks * 2 ^ by + banks * 2 ^ by
         l2 = subst (λ n. r < n) (twice_part banks by) l
 
-        first : CountsTaken x width (taken os width quotient rest (banks * 2 ^ by % 2 ^ 64)) (q * 2 + bit_number (nat_le (banks * 2 ^ by % 2 ^ 64) r)) (left_number (nat_le (banks * 2 ^ by % 2 ^ 64) r) r (banks * 2 ^ by % 2 ^ 64))
+        first : CountsTaken x width (constant_taken os width quotient rest (banks * 2 ^ by % 2 ^ 64)) (q * 2 + bit_number (nat_le (banks * 2 ^ by % 2 ^ 64) r)) (left_number (nat_le (banks * 2 ^ by % 2 ^ 64) r) r (banks * 2 ^ by % 2 ^ 64))
         first =
             let m = doubled q (banks * 2 ^ by) r v (part_some banks by some) e2 in
             let n : r ≤ v = omega (arith, e2) in
             taken_counts os begun quotient rest (banks * 2 ^ by % 2 ^ 64) q r (omega (arith, m, small)) (omega (arith, n, small)) s r_is
-            (obeys_plain x _ _ (long_behind (taken os width quotient rest (banks * 2 ^ by % 2 ^ 64)).operations width banks by (taken os width quotient rest (banks * 2 ^ by % 2 ^ 64)).quotient (taken os width quotient rest (banks * 2 ^ by % 2 ^ 64)).rest) h)
+            (obeys_plain x _ _ (long_behind (constant_taken os width quotient rest (banks * 2 ^ by % 2 ^ 64)).operations width banks by (constant_taken os width quotient rest (banks * 2 ^ by % 2 ^ 64)).quotient (constant_taken os width quotient rest (banks * 2 ^ by % 2 ^ 64)).rest) h)
 
-        told : CountsTaken x width (taken os width quotient rest (banks * 2 ^ by % 2 ^ 64)) (q * 2 + bit_number (nat_le (banks * 2 ^ by) r)) (left_number (nat_le (banks * 2 ^ by) r) r (banks * 2 ^ by))
+        told : CountsTaken x width (constant_taken os width quotient rest (banks * 2 ^ by % 2 ^ 64)) (q * 2 + bit_number (nat_le (banks * 2 ^ by) r)) (left_number (nat_le (banks * 2 ^ by) r) r (banks * 2 ^ by))
         told =
-            subst (λ n. CountsTaken x width (taken os width quotient rest (banks * 2 ^ by % 2 ^ 64)) (q * 2 + bit_number (nat_le n r)) (left_number (nat_le n r) r n)) (fits by (omega arith)) first
+            subst (λ n. CountsTaken x width (constant_taken os width quotient rest (banks * 2 ^ by % 2 ^ 64)) (q * 2 + bit_number (nat_le n r)) (left_number (nat_le n r) r n)) (fits by (omega arith)) first
 
   -- The divisions of an index of a dimension.
 

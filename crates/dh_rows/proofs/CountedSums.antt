@@ -11,7 +11,7 @@ use Rattle.dh_value.specs.Operations.{binary_of}
 use Rattle.dh_plan.specs.declared.operations.Operation.{Operation}
 use Rattle.dh_plan.specs.declared.operations.OperationForm.TheVariants.{Compute}
 use Rattle.dh_rows.specs.Readings.{Readings, Obeys, OperationsGrow, is_cheap}
-use Rattle.dh_rows.specs.MadeOperations.{Summed, made, summed, sum_of, constant_made, computed, converted, computed_with, bits_in, shifted, added, added_with, bit_scaled, scaled_below, scaled, times, digit_behind, digit_added, or_zero}
+use Rattle.dh_rows.specs.MadeOperations.{Summed, made, summed, sum_of, constant_made, computed, converted, computed_with, bits_in, value_shifted, value_added, added_with, bit_scaled, scaled_below, scaled, times, digit_behind, digit_added, or_zero}
 use Rattle.dh_rows.proofs.Growing.{grown_length, obeys_before, obeys_plain, plain_grows, pushed_word, pushed_grows}
 use Rattle.dh_rows.proofs.PutBehind.{shifted_behind, added_behind, bit_behind, below_behind, times_behind, behind_behind}
 use Rattle.dh_rows.proofs.CountWords.{add_count, shift_count}
@@ -50,7 +50,7 @@ module _ (x : Readings) (width : ℕ) where
   CountsOr None n = n ≡ 0
   CountsOr (Some v) n = Counts v n
 
-  pub shifted_counts : (os : List Operation) → x.first ≤ length os → (value by n : ℕ) → n * 2 ^ by < 2 ^ width → Counts value n → Obeys x (shifted os value by).operations → Counts (shifted os value by).value (n * 2 ^ by)
+  pub shifted_counts : (os : List Operation) → x.first ≤ length os → (value by n : ℕ) → n * 2 ^ by < 2 ^ width → Counts value n → Obeys x (value_shifted os value by).operations → Counts (value_shifted os value by).value (n * 2 ^ by)
   shifted_counts os begun value by n fits is h = of (by == 0) refl h
     where
       of : (t : Bool) → (by == 0) ≡ t → Obeys x (if t then made os value else computed_with op.Shl value (constant_made os 6 by)).operations
@@ -64,8 +64,8 @@ module _ (x : Readings) (width : ℕ) where
           none by e = ap (λ i. n * 2 ^ i) (zero_is by e) ∙ omega arith
       of false e g = with_shows x os begun op.Shl value 6 by refl g ∙ (ap (λ w. binary_of op.Shl w (with_bits (kind.Unsigned 6) by)) is ∙ shift_count width n by fits)
 
-  pub added_counts : (os : List Operation) → x.first ≤ length os → (sum : Option ℕ) (value m n : ℕ) → m + n < 2 ^ width → CountsOr sum m → Counts value n → Obeys x (added os sum value).operations
-      → Counts (added os sum value).value (m + n)
+  pub added_counts : (os : List Operation) → x.first ≤ length os → (sum : Option ℕ) (value m n : ℕ) → m + n < 2 ^ width → CountsOr sum m → Counts value n → Obeys x (value_added os sum value).operations
+      → Counts (value_added os sum value).value (m + n)
   added_counts os begun None value m n fits s is h = is ∙ ap (λ i. with_bits (kind.Unsigned width) i) (none m s)
     where
       none : (m : ℕ) → m ≡ 0 → n ≡ m + n
@@ -95,8 +95,8 @@ module _ (x : Readings) (width : ℕ) where
       most : n * high factor by ≤ n * factor
       most = mul-le-mul_left n (high_most factor by)
 
-      of : (t : Bool) → (factor / 2 ^ by % 2 == 1) ≡ t → Obeys x (if t then sum_of (added_with sum (shifted os value by)) else summed os sum).operations
-          → CountsOr (if t then sum_of (added_with sum (shifted os value by)) else summed os sum).sum (n * high factor by)
+      of : (t : Bool) → (factor / 2 ^ by % 2 == 1) ≡ t → Obeys x (if t then sum_of (added_with sum (value_shifted os value by)) else summed os sum).operations
+          → CountsOr (if t then sum_of (added_with sum (value_shifted os value by)) else summed os sum).sum (n * high factor by)
       of true e g =
           let two = sums (set _ e) in
           let l = most in
@@ -104,7 +104,7 @@ module _ (x : Readings) (width : ℕ) where
           let one : n * 2 ^ by < 2 ^ width = omega (arith, both) in
           let behind = plain_grows _ _ (shifted_behind os value by) in
           counts_as (Some _) _ _ (sym two)
-          (added_counts (shifted os value by).operations (begun_behind x os _ behind begun) sum (shifted os value by).value (n * high factor (suc by)) (n * 2 ^ by) both s
+          (added_counts (value_shifted os value by).operations (begun_behind x os _ behind begun) sum (value_shifted os value by).value (n * high factor (suc by)) (n * 2 ^ by) both s
           (shifted_counts os begun value by n one is (obeys_plain x _ _ (added_behind _ sum _) g)) g)
       of false e g = counts_as sum _ _ (ap (λ m. n * m) (sym (high_off factor by (unset _ (mod-lt _ (omega arith)) e)))) s
 

@@ -13,8 +13,8 @@ use Rattle.dh_value.specs.Operations.{binary_of}
 use Rattle.dh_value.proofs.Values.{value_residue}
 use Rattle.dh_plan.specs.declared.operations.Operation.{Operation}
 use Rattle.dh_rows.specs.Readings.{Readings, Obeys}
-use Rattle.dh_rows.specs.RowsShown.{HoldsOrNone, IsTestMade, is_below_size}
-use Rattle.dh_rows.specs.MadeOperations.{summed, sum_of, constant_made, converted, computed_with, bounded, tested}
+use Rattle.dh_rows.specs.RowsShown.{HoldsOrNone, TestsValue, is_below_size}
+use Rattle.dh_rows.specs.MadeOperations.{summed, sum_of, constant_made, converted, computed_with, bounded, value_tested}
 use Rattle.dh_rows.proofs.Growing.{obeys_plain, plain_self, plain_on, plain_pushed, pushed_grows}
 use Rattle.dh_rows.proofs.PutBehind.{with_behind}
 use Rattle.dh_rows.proofs.PutSpread.{makes_tested}
@@ -61,14 +61,14 @@ bounded_behind os width value bound = of (nat_le (2 ^ width) bound)
     of true = plain_self os
     of false = with_behind os op.Lt value width bound refl
 
-pub tested_behind : (os : List Operation) (k : Kind) (value size : ℕ) → GrowsPlain os (tested os k value size).operations
+pub tested_behind : (os : List Operation) (k : Kind) (value size : ℕ) → GrowsPlain os (value_tested os k value size).operations
 tested_behind os kind.Bool value size = plain_self os
 tested_behind os (kind.Unsigned w) value size = bounded_behind os w value size
 tested_behind os (kind.Signed w) value size =
     plain_on os (converted os value w).operations _ (plain_pushed os _ refl) (bounded_behind (converted os value w).operations w (converted os value w).value (min size (2 ^ (w - 1))))
 
 pub tested_grows : (os : List Operation) (k : Kind) (value size : ℕ) (new : List Operation) (test : Option ℕ)
-    → (new ≡ (tested os k value size).operations) × (test ≡ (tested os k value size).sum) → GrowsPlain os new
+    → (new ≡ (value_tested os k value size).operations) × (test ≡ (value_tested os k value size).sum) → GrowsPlain os new
 tested_grows os k value size new test e = subst (λ (l : List Operation). GrowsPlain os l) (sym e.0) (tested_behind os k value size)
 
 module _ (x : Readings) where
@@ -93,8 +93,8 @@ module _ (x : Readings) where
   range_as : (v : Option ℕ) (a b : Bool) → a ≡ b → HoldsOrNone x v a → HoldsOrNone x v b
   range_as v a b e h = subst (λ t. HoldsOrNone x v t) e h
 
-  tested_holds : (k : Kind) (os : List Operation) → x.first ≤ length os → (value size : ℕ) → IsInteger k → IsWord (x.word value) → (x.word value).kind ≡ k → Obeys x (tested os k value size).operations
-      → HoldsOrNone x (tested os k value size).sum (is_below_size (value_of (x.word value)) size)
+  tested_holds : (k : Kind) (os : List Operation) → x.first ≤ length os → (value size : ℕ) → IsInteger k → IsWord (x.word value) → (x.word value).kind ≡ k → Obeys x (value_tested os k value size).operations
+      → HoldsOrNone x (value_tested os k value size).sum (is_below_size (value_of (x.word value)) size)
   tested_holds kind.Bool os begun value size sized word e h = elim sized [ ]
   tested_holds (kind.Unsigned w) os begun value size sized word e h =
       range_as (bounded os w value size).sum (nat_lt (x.word value).bits size) (is_below_size (value_of (x.word value)) size)
@@ -102,7 +102,7 @@ module _ (x : Readings) where
       (bounded_holds os begun w value size (x.word value).bits (fits_kind (x.word value) (kind.Unsigned w) word e) (as_bits (x.word value) (kind.Unsigned w) e) h)
   tested_holds (kind.Signed w) os begun value size sized word e h =
       let small = fits_kind (x.word value) (kind.Signed w) word e in
-      range_as (tested os (kind.Signed w) value size).sum (nat_lt (x.word value).bits (min size (2 ^ (w - 1)))) _
+      range_as (value_tested os (kind.Signed w) value size).sum (nat_lt (x.word value).bits (min size (2 ^ (w - 1)))) _
       (sym (signed_range w (x.word value).bits size sized.0 small) ∙ ap (λ z. is_below_size z size) (value_kind (x.word value) (kind.Signed w) e))
       (bounded_holds (converted os value w).operations (begun_behind x os _ (pushed_grows os None _) begun) w (converted os value w).value (min size (2 ^ (w - 1))) (x.word value).bits small shown h)
     where
@@ -113,13 +113,13 @@ module _ (x : Readings) where
           (ap (λ z. residue (2 ^ w) z) (sym (value_kind (x.word value) (kind.Signed w) e)) ∙ value_residue (kind.Signed w) (x.word value).bits (fits_kind (x.word value) (kind.Signed w) word e))
 
 module _ (k : Kind) (value size : ℕ) (old : List Operation) (sized : IsInteger k) where
-  test_made : IsTestMade k value size old (tested old k value size).operations (tested old k value size).sum
+  test_made : TestsValue k value size old (value_tested old k value size).operations (value_tested old k value size).sum
   test_made = record {
     adds = λ x clock begun h. (makes_tested x clock old begun k value size sized h).adds;
     stands = λ x clock begun h. (makes_tested x clock old begun k value size sized h).sum;
     shown = λ x begun obeys word e. tested_holds x k old begun value size sized word e obeys;
   }
 
-  pub test_made_as : (new : List Operation) (test : Option ℕ) → (new ≡ (tested old k value size).operations) × (test ≡ (tested old k value size).sum) → IsTestMade k value size old new test
+  pub test_made_as : (new : List Operation) (test : Option ℕ) → (new ≡ (value_tested old k value size).operations) × (test ≡ (value_tested old k value size).sum) → TestsValue k value size old new test
   test_made_as new test e =
-      subst (λ os. IsTestMade k value size old os test) (sym e.0) (subst (λ t. IsTestMade k value size old (tested old k value size).operations t) (sym e.1) test_made)
+      subst (λ os. TestsValue k value size old os test) (sym e.0) (subst (λ t. TestsValue k value size old (value_tested old k value size).operations t) (sym e.1) test_made)

@@ -9,21 +9,21 @@ use Rattle.dh_tree.specs.declared.tables.Dim.{Dim}
 use Rattle.dh_plan.specs.declared.operations.Operation.{Operation}
 use Rattle.dh_plan.specs.declared.operations.OperationForm.TheVariants.{Constant}
 use Rattle.dh_rows.specs.Readings.{GrowsPlain, is_cheap}
-use Rattle.dh_rows.specs.MadeOperations.{Made, Summed, Taken, Divided, made, summed, sum_of, constant_made, computed, converted, selected, computed_with, bits_in, power_in, shifted, added, added_with, bit_scaled, scaled_below, twice, taken, taken_last, taken_bit, taken_rest, taken_less, taken_held, taken_part, taken_below, divided_long, low_made, divided_by_power, divided_some, divided, times, digit_behind, digit_added, bank_spread, division_spread, dim_spread}
+use Rattle.dh_rows.specs.MadeOperations.{Made, Summed, Taken, Divided, made, summed, sum_of, constant_made, computed, converted, selected, computed_with, bits_in, power_in, value_shifted, value_added, added_with, bit_scaled, scaled_below, value_doubled, constant_taken, taken_last, taken_bit, taken_rest, taken_less, taken_held, taken_part, taken_below, divided_long, low_made, divided_by_power, divided_some, divided, times, digit_behind, digit_added, bank_spread, division_spread, dim_spread}
 use Rattle.dh_rows.proofs.Growing.{plain_self, plain_on, plain_pushed}
 
 -- two operations
 pub with_behind : (os : List Operation) (o : Op) (left width number : ℕ) → is_cheap o ≡ true → GrowsPlain os (computed_with o left (constant_made os width number)).operations
 with_behind os o left width number cheap = plain_on os _ _ (plain_pushed os (Constant (with_bits (kind.Unsigned width) number)) refl) (plain_pushed (constant_made os width number).operations _ cheap)
 
-pub shifted_behind : (os : List Operation) (value by : ℕ) → GrowsPlain os (shifted os value by).operations
+pub shifted_behind : (os : List Operation) (value by : ℕ) → GrowsPlain os (value_shifted os value by).operations
 shifted_behind os value by = of (by == 0)
   where
     of : (t : Bool) → GrowsPlain os (if t then made os value else computed_with op.Shl value (constant_made os 6 by)).operations
     of true = plain_self os
     of false = with_behind os op.Shl value 6 by refl
 
-pub added_behind : (os : List Operation) (sum : Option ℕ) (value : ℕ) → GrowsPlain os (added os sum value).operations
+pub added_behind : (os : List Operation) (sum : Option ℕ) (value : ℕ) → GrowsPlain os (value_added os sum value).operations
 added_behind os None value = plain_self os
 added_behind os (Some first) value = plain_pushed os _ refl
 
@@ -33,8 +33,8 @@ added_with_behind os sum m g = plain_on os m.operations _ g (added_behind m.oper
 pub bit_behind : (os : List Operation) (value factor by : ℕ) (sum : Option ℕ) → GrowsPlain os (bit_scaled os value factor by sum).operations
 bit_behind os value factor by sum = of (factor / 2 ^ by % 2 == 1)
   where
-    of : (t : Bool) → GrowsPlain os (if t then sum_of (added_with sum (shifted os value by)) else summed os sum).operations
-    of true = added_with_behind os sum (shifted os value by) (shifted_behind os value by)
+    of : (t : Bool) → GrowsPlain os (if t then sum_of (added_with sum (value_shifted os value by)) else summed os sum).operations
+    of true = added_with_behind os sum (value_shifted os value by) (shifted_behind os value by)
     of false = plain_self os
 
 pub below_behind : (os : List Operation) (value factor bits : ℕ) (sum : Option ℕ) → GrowsPlain os (scaled_below os value factor bits sum).operations
@@ -43,7 +43,7 @@ below_behind os value factor (suc by) sum =
     plain_on os (bit_scaled os value factor by sum).operations (scaled_below os value factor (suc by) sum).operations (bit_behind os value factor by sum)
     (below_behind (bit_scaled os value factor by sum).operations value factor by (bit_scaled os value factor by sum).sum)
 
-pub twice_behind : (os : List Operation) (value : Option ℕ) → GrowsPlain os (twice os value).operations
+pub twice_behind : (os : List Operation) (value : Option ℕ) → GrowsPlain os (value_doubled os value).operations
 twice_behind os None = plain_self os
 twice_behind os (Some value) = shifted_behind os value 1
 
@@ -51,7 +51,7 @@ pub last_behind : (rest bit : ℕ) (t : Summed) → GrowsPlain t.operations (tak
 last_behind rest bit t = added_behind t.operations t.sum bit
 
 pub bit_taken_behind : (quotient : Option ℕ) (rest : ℕ) (bit : Made) → GrowsPlain bit.operations (taken_bit quotient rest bit).operations
-bit_taken_behind quotient rest bit = plain_on bit.operations (twice bit.operations quotient).operations (taken_bit quotient rest bit).operations (twice_behind bit.operations quotient) (last_behind rest bit.value (twice bit.operations quotient))
+bit_taken_behind quotient rest bit = plain_on bit.operations (value_doubled bit.operations quotient).operations (taken_bit quotient rest bit).operations (twice_behind bit.operations quotient) (last_behind rest bit.value (value_doubled bit.operations quotient))
 
 pub rest_behind : (width : ℕ) (quotient : Option ℕ) (holds : ℕ) (rest : Made) → GrowsPlain rest.operations (taken_rest width quotient holds rest).operations
 rest_behind width quotient holds rest = plain_on rest.operations (converted rest.operations holds width).operations _ (plain_pushed rest.operations _ refl) (bit_taken_behind quotient rest.value (converted rest.operations holds width))
@@ -68,14 +68,14 @@ pub part_behind : (width : ℕ) (quotient : Option ℕ) (rest : ℕ) (part : Mad
 part_behind width quotient rest part =
     plain_on part.operations (computed part.operations op.Ge rest part.value).operations _ (plain_pushed part.operations _ refl) (held_behind width quotient rest part.value (computed part.operations op.Ge rest part.value))
 
-pub taken_behind : (os : List Operation) (width : ℕ) (quotient : Option ℕ) (rest part : ℕ) → GrowsPlain os (taken os width quotient rest part).operations
+pub taken_behind : (os : List Operation) (width : ℕ) (quotient : Option ℕ) (rest part : ℕ) → GrowsPlain os (constant_taken os width quotient rest part).operations
 taken_behind os width quotient rest part = plain_on os (constant_made os width part).operations _ (plain_pushed os _ refl) (part_behind width quotient rest (constant_made os width part))
 
 pub long_behind : (os : List Operation) (width banks bits : ℕ) (quotient : Option ℕ) (rest : ℕ) → GrowsPlain os (taken_below os width banks bits quotient rest).operations
 long_behind os width banks zero quotient rest = plain_self os
 long_behind os width banks (suc by) quotient rest =
-    turned (taken os width quotient rest (banks * 2 ^ by % 2 ^ 64)) (taken_behind os width quotient rest (banks * 2 ^ by % 2 ^ 64))
-    (long_behind (taken os width quotient rest (banks * 2 ^ by % 2 ^ 64)).operations width banks by (taken os width quotient rest (banks * 2 ^ by % 2 ^ 64)).quotient (taken os width quotient rest (banks * 2 ^ by % 2 ^ 64)).rest)
+    turned (constant_taken os width quotient rest (banks * 2 ^ by % 2 ^ 64)) (taken_behind os width quotient rest (banks * 2 ^ by % 2 ^ 64))
+    (long_behind (constant_taken os width quotient rest (banks * 2 ^ by % 2 ^ 64)).operations width banks by (constant_taken os width quotient rest (banks * 2 ^ by % 2 ^ 64)).quotient (constant_taken os width quotient rest (banks * 2 ^ by % 2 ^ 64)).rest)
   where
     turned : (t : Taken) → GrowsPlain os t.operations → GrowsPlain t.operations (taken_below t.operations width banks by t.quotient t.rest).operations → GrowsPlain os (taken_below t.operations width banks by t.quotient t.rest).operations
     turned t g h = plain_on os t.operations _ g h

@@ -13,7 +13,7 @@ use Rattle.dh_value.specs.Operations.{Suits, result_of}
 use Rattle.dh_plan.specs.declared.operations.Operation.{Operation}
 use Rattle.dh_plan.specs.declared.operations.OperationForm.TheVariants.{Constant, Compute, Convert, Select}
 use Rattle.dh_rows.specs.Readings.{Readings, Obeys, IsEarlierValue, AddsOperations, IsReadingValue, IsValueOrNone, is_cheap}
-use Rattle.dh_rows.specs.MadeOperations.{Made, Summed, Taken, Divided, made, summed, sum_of, constant_made, computed, converted, selected, computed_with, bits_in, shifted, added, added_with, bit_scaled, scaled_below, scaled, twice, taken, taken_last, taken_bit, taken_rest, taken_less, taken_held, taken_below, quotient_and, divided_long, low_made, divided_by_power, or_zero, times, digit_behind, digit_added}
+use Rattle.dh_rows.specs.MadeOperations.{Made, Summed, Taken, Divided, made, summed, sum_of, constant_made, computed, converted, selected, computed_with, bits_in, value_shifted, value_added, added_with, bit_scaled, scaled_below, scaled, value_doubled, constant_taken, taken_last, taken_bit, taken_rest, taken_less, taken_held, taken_below, quotient_and, divided_long, low_made, divided_by_power, or_zero, times, digit_behind, digit_added}
 use Rattle.dh_rows.proofs.Growing.{grown_length, value_later, maybe_later, adds_self, adds_on, pushed_adds, pushed_value}
 
 -- operations that make a value of a kind
@@ -113,14 +113,14 @@ module _ (x : Readings) (clock width : ℕ) (sized : IsWidth width) where
   abbrev own : Kind
   own = kind.Unsigned width
 
-  pub makes_shifted : (os : List Operation) → x.first ≤ length os → (value by : ℕ) → by < 64 → IsReadingValue x clock os own value → Makes x clock os (shifted os value by) own
+  pub makes_shifted : (os : List Operation) → x.first ≤ length os → (value by : ℕ) → by < 64 → IsReadingValue x clock os own value → Makes x clock os (value_shifted os value by) own
   makes_shifted os begun value by few g = of (by == 0)
     where
       of : (t : Bool) → Makes x clock os (if t then made os value else computed_with op.Shl value (constant_made os 6 by)) own
       of true = none_made x clock os own value g
       of false = makes_with x clock os begun op.Shl value (constant_made os 6 by) own (kind.Unsigned 6) own refl tt refl g (makes_constant x clock os begun 6 by six_bits few)
 
-  pub makes_added : (os : List Operation) → x.first ≤ length os → (sum : Option ℕ) (value : ℕ) → IsValueOrNone x clock os own sum → IsReadingValue x clock os own value → Makes x clock os (added os sum value) own
+  pub makes_added : (os : List Operation) → x.first ≤ length os → (sum : Option ℕ) (value : ℕ) → IsValueOrNone x clock os own sum → IsReadingValue x clock os own value → Makes x clock os (value_added os sum value) own
   makes_added os begun None value s g = none_made x clock os own value g
   makes_added os begun (Some first) value s g = makes_computed x clock os begun op.Add first value own own own refl refl refl s g
 
@@ -133,8 +133,8 @@ module _ (x : Readings) (clock width : ℕ) (sized : IsWidth width) where
       → MakesAny x clock os (bit_scaled os value factor by sum) own
   makes_bit os begun value factor by sum few g s = of (factor / 2 ^ by % 2 == 1)
     where
-      of : (t : Bool) → MakesAny x clock os (if t then sum_of (added_with sum (shifted os value by)) else summed os sum) own
-      of true = any_of x clock os _ own (makes_added_with os begun sum (shifted os value by) s (makes_shifted os begun value by few g))
+      of : (t : Bool) → MakesAny x clock os (if t then sum_of (added_with sum (value_shifted os value by)) else summed os sum) own
+      of true = any_of x clock os _ own (makes_added_with os begun sum (value_shifted os value by) s (makes_shifted os begun value by few g))
       of false = none_any x clock os own sum s
 
   below_turn : (os : List Operation) (value factor by : ℕ) (next : Summed) → MakesAny x clock os next own
@@ -154,7 +154,7 @@ module _ (x : Readings) (clock width : ℕ) (sized : IsWidth width) where
 
   -- Quotients.
 
-  makes_twice : (os : List Operation) → x.first ≤ length os → (value : Option ℕ) → IsValueOrNone x clock os own value → MakesAny x clock os (twice os value) own
+  makes_twice : (os : List Operation) → x.first ≤ length os → (value : Option ℕ) → IsValueOrNone x clock os own value → MakesAny x clock os (value_doubled os value) own
   makes_twice os begun None g = none_any x clock os own None tt
   makes_twice os begun (Some value) g = any_of x clock os _ own (makes_shifted os begun value 1 (omega arith) g)
 
@@ -163,7 +163,7 @@ module _ (x : Readings) (clock width : ℕ) (sized : IsWidth width) where
       → MakesTaken x clock os (taken_last rest bit t) own
   taken_end os begun rest bit t h r b = record { adds = adds_on x clock os t.operations _ h.adds a.adds; quotient = a.value; rest = kept x clock t.operations _ own rest a.adds (kept x clock os t.operations own rest h.adds r) }
     where
-      a : Makes x clock t.operations (added t.operations t.sum bit) own
+      a : Makes x clock t.operations (value_added t.operations t.sum bit) own
       a = makes_added t.operations (begun_on x clock os t.operations h.adds begun) t.sum bit h.sum (kept x clock os t.operations own bit h.adds b)
 
   taken_over : (os : List Operation) (m : List Operation) (t : Taken) → AddsOperations x clock os m → MakesTaken x clock m t own → MakesTaken x clock os t own
@@ -174,7 +174,7 @@ module _ (x : Readings) (clock width : ℕ) (sized : IsWidth width) where
   makes_taken_bit os begun quotient rest bit h q r =
       let later = begun_on x clock os bit.operations h.adds begun in
       taken_over os bit.operations _ h.adds
-      (taken_end bit.operations later rest bit.value (twice bit.operations quotient) (makes_twice bit.operations later quotient (kept_maybe x clock os bit.operations own quotient h.adds q))
+      (taken_end bit.operations later rest bit.value (value_doubled bit.operations quotient) (makes_twice bit.operations later quotient (kept_maybe x clock os bit.operations own quotient h.adds q))
       (kept x clock os bit.operations own rest h.adds r) h.value)
 
   makes_taken_rest : (os : List Operation) → x.first ≤ length os → (quotient : Option ℕ) (holds : ℕ) (rest : Made) → Makes x clock os rest own → IsValueOrNone x clock os own quotient → IsReadingValue x clock os kind.Bool holds
@@ -207,7 +207,7 @@ module _ (x : Readings) (clock width : ℕ) (sized : IsWidth width) where
       (kept_maybe x clock os holds.operations own quotient h.adds q) rest_later h.value)
 
   makes_taken : (os : List Operation) → x.first ≤ length os → (quotient : Option ℕ) (rest part : ℕ) → part < 2 ^ width → IsValueOrNone x clock os own quotient → IsReadingValue x clock os own rest
-      → MakesTaken x clock os (taken os width quotient rest part) own
+      → MakesTaken x clock os (constant_taken os width quotient rest part) own
   makes_taken os begun quotient rest part fits q r =
       let c = makes_constant x clock os begun width part sized fits in
       let later = begun_on x clock os _ c.adds begun in
@@ -226,9 +226,9 @@ module _ (x : Readings) (clock width : ℕ) (sized : IsWidth width) where
   makes_taken_below os begun banks zero quotient rest fits q r = record { adds = adds_self x clock os; quotient = q; rest = r }
   makes_taken_below os begun banks (suc by) quotient rest fits q r =
       let t = makes_taken os begun quotient rest (banks * 2 ^ by % 2 ^ 64) (fits by (omega arith)) q r in
-      taken_turned os banks by (taken os width quotient rest (banks * 2 ^ by % 2 ^ 64)) t
-      (makes_taken_below (taken os width quotient rest (banks * 2 ^ by % 2 ^ 64)).operations (begun_on x clock os _ t.adds begun) banks by (taken os width quotient rest (banks * 2 ^ by % 2 ^ 64)).quotient
-      (taken os width quotient rest (banks * 2 ^ by % 2 ^ 64)).rest (λ i l. fits i (omega (arith, l))) t.quotient t.rest)
+      taken_turned os banks by (constant_taken os width quotient rest (banks * 2 ^ by % 2 ^ 64)) t
+      (makes_taken_below (constant_taken os width quotient rest (banks * 2 ^ by % 2 ^ 64)).operations (begun_on x clock os _ t.adds begun) banks by (constant_taken os width quotient rest (banks * 2 ^ by % 2 ^ 64)).quotient
+      (constant_taken os width quotient rest (banks * 2 ^ by % 2 ^ 64)).rest (λ i l. fits i (omega (arith, l))) t.quotient t.rest)
 
   pub makes_divided_long : (os : List Operation) → x.first ≤ length os → (value banks bits : ℕ) → ((by : ℕ) → by < bits → banks * 2 ^ by % 2 ^ 64 < 2 ^ width) → IsReadingValue x clock os own value
       → MakesDivided x clock os (divided_long os width value banks bits) own

@@ -12,7 +12,7 @@ use Rattle.dh_tree.specs.Shapes.{IsDim}
 use Rattle.dh_plan.specs.declared.operations.Operation.{Operation}
 use Rattle.dh_rows.specs.Readings.{Readings, AddsOperations, IsReadingValue, IsValueOrNone}
 use Rattle.dh_rows.specs.RowsShown.{IsInput}
-use Rattle.dh_rows.specs.MadeOperations.{Summed, Divided, Spread, summed, sum_of, constant_made, converted, computed_with, bits_in, power_in, divided_by_power, divided_long, divided_some, divided, digit_added, bank_spread, division_spread, dim_spread, all_spread, bounded, tested}
+use Rattle.dh_rows.specs.MadeOperations.{Summed, Divided, Spread, summed, sum_of, constant_made, converted, computed_with, bits_in, power_in, divided_by_power, divided_long, divided_some, divided, digit_added, bank_spread, division_spread, dim_spread, all_spread, bounded, value_tested}
 use Rattle.dh_rows.proofs.Growing.{grown_length, adds_self, adds_on, obeys_before, earlier_later}
 use Rattle.dh_rows.proofs.PutDown.{MakesAny, MakesDivided, begun_on, kept_maybe, none_any, any_of, makes_constant, makes_converted, makes_with, makes_digit, makes_divided_by_power, makes_divided_long}
 use Rattle.dh_rows.proofs.BitsOfNumbers.{part_fits, power_most, power_least}
@@ -54,7 +54,7 @@ module _ (x : Readings) (clock : ℕ) where
           (makes_with x clock os begun op.Lt value (constant_made os width bound) (kind.Unsigned width) (kind.Unsigned width) kind.Bool refl refl refl g
           (makes_constant x clock os begun width bound sized (above (2 ^ width) bound e)))
 
-  pub makes_tested : (os : List Operation) → x.first ≤ length os → (k : Kind) (value size : ℕ) → IsInteger k → IsReadingValue x clock os k value → MakesAny x clock os (tested os k value size) kind.Bool
+  pub makes_tested : (os : List Operation) → x.first ≤ length os → (k : Kind) (value size : ℕ) → IsInteger k → IsReadingValue x clock os k value → MakesAny x clock os (value_tested os k value size) kind.Bool
   makes_tested os begun kind.Bool value size sized g = elim sized [ ]
   makes_tested os begun (kind.Unsigned width) value size sized g = makes_bounded os begun width value size sized g
   makes_tested os begun (kind.Signed width) value size sized g =

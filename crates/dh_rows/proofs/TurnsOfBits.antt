@@ -4,7 +4,7 @@ use Rattle.std.proofs.Common.{◌≡◌, ℕ, zero, suc, ◌-◌, ◌*◌, ◌/�
 use Rattle.std.specs.Prelude.{Option, if◌then◌else◌, [], ◌∷◌}
 use Rattle.dh_plan.specs.declared.operations.Operation.{Operation}
 use Rattle.dh_tree.specs.declared.tables.Dim.{Dim}
-use Rattle.dh_rows.specs.MadeOperations.{Made, Summed, Taken, Spread, IsMade, IsTaken, made, summed, sum_of, shifted, added, added_with, bit_scaled, scaled_below, taken, taken_below, all_spread}
+use Rattle.dh_rows.specs.MadeOperations.{Made, Summed, Taken, Spread, IsMade, IsTaken, made, summed, sum_of, value_shifted, value_added, added_with, bit_scaled, scaled_below, constant_taken, taken_below, all_spread}
 use Rattle.dh_rows.specs.declared.dividing.Taking.{Taking}
 
 -- the bit below a bound
@@ -21,7 +21,7 @@ module _ (os : List Operation) (value factor : ℕ) (whole : Summed) where
       sym (ap (λ (m : Summed). scaled_below m.operations value factor low m.sum) step) ∙ (ap (λ n. scaled_below os value factor n sum) is ∙ all)
 
   abbrev bit_on : Option ℕ → ℕ → Summed
-  bit_on sum low = sum_of (added_with sum (shifted os value low))
+  bit_on sum low = sum_of (added_with sum (value_shifted os value low))
 
   pub scaled_off : (by low : ℕ) (sum : Option ℕ) (bit : Bool) → suc low ≡ by → bit ≡ (factor / 2 ^ low % 2 == 1) → bit ≡ false → scaled_below os value factor by sum ≡ whole
       → scaled_below os value factor low sum ≡ whole
@@ -29,30 +29,30 @@ module _ (os : List Operation) (value factor : ℕ) (whole : Summed) where
       scaled_turn by low sum (summed os sum) some (ap (λ t. if t then bit_on sum low else summed os sum) (sym is ∙ off)) all
 
   pub scaled_on : (by low : ℕ) (sum : Option ℕ) (bit : Bool) (os1 os2 : List Operation) (part n : ℕ) → suc low ≡ by → bit ≡ (factor / 2 ^ low % 2 == 1) → bit ≡ true
-      → IsMade os1 part (shifted os value low) → IsMade os2 n (added os1 sum part) → scaled_below os value factor by sum ≡ whole
+      → IsMade os1 part (value_shifted os value low) → IsMade os2 n (value_added os1 sum part) → scaled_below os value factor by sum ≡ whole
       → scaled_below os2 value factor low (Some n) ≡ whole
   scaled_on by low sum bit os1 os2 part n some is on first second all =
       scaled_turn by low sum (summed os2 (Some n)) some (ap (λ t. if t then bit_on sum low else summed os sum) (sym is ∙ on) ∙ sym both) all
     where
-      early : made os1 part ≡ shifted os value low
+      early : made os1 part ≡ value_shifted os value low
       early = made_whole os1 part _ first.0 first.1
 
-      late : made os2 n ≡ added os1 sum part
+      late : made os2 n ≡ value_added os1 sum part
       late = made_whole os2 n _ second.0 second.1
 
       both : summed os2 (Some n) ≡ bit_on sum low
       both = ap sum_of late ∙ ap (λ (m : Made). sum_of (added_with sum m)) early
 
 pub taken_turn : (os os1 : List Operation) (width banks by low : ℕ) (quotient : Option ℕ) (rest part : ℕ) (next : Taking) (whole : Taken) → suc low ≡ by
-    → part ≡ banks * 2 ^ low % 2 ^ 64 → IsTaken os1 next (taken os width quotient rest part)
+    → part ≡ banks * 2 ^ low % 2 ^ 64 → IsTaken os1 next (constant_taken os width quotient rest part)
     → taken_below os width banks by quotient rest ≡ whole → taken_below os1 width banks low next.quotient next.rest ≡ whole
 taken_turn os os1 width banks by low quotient rest part next whole some is step all =
     sym alike ∙ (ap (λ n. taken_below os width banks n quotient rest) some ∙ all)
   where
-    same : taken os width quotient rest part ≡ taken os width quotient rest (banks * 2 ^ low % 2 ^ 64)
-    same = ap (λ (n : ℕ). taken os width quotient rest n) is
+    same : constant_taken os width quotient rest part ≡ constant_taken os width quotient rest (banks * 2 ^ low % 2 ^ 64)
+    same = ap (λ (n : ℕ). constant_taken os width quotient rest n) is
 
-    as_made : record { operations = os1; quotient = next.quotient; rest = next.rest } ≡ taken os width quotient rest part
+    as_made : record { operations = os1; quotient = next.quotient; rest = next.rest } ≡ constant_taken os width quotient rest part
     as_made = cc
 
     alike : taken_below os width banks (suc low) quotient rest ≡ taken_below os1 width banks low next.quotient next.rest

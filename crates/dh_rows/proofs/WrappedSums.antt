@@ -13,7 +13,7 @@ use Rattle.dh_value.specs.Operations.{binary_of}
 use Rattle.dh_value.proofs.Residues.{Above, residue_is, above_negative, above_sum, above_product}
 use Rattle.dh_plan.specs.declared.operations.Operation.{Operation}
 use Rattle.dh_rows.specs.Readings.{Readings, Obeys}
-use Rattle.dh_rows.specs.MadeOperations.{made, summed, sum_of, constant_made, converted, computed_with, bits_in, shifted, added, added_with, bit_scaled, scaled_below, scaled, moved}
+use Rattle.dh_rows.specs.MadeOperations.{made, summed, sum_of, constant_made, converted, computed_with, bits_in, value_shifted, value_added, added_with, bit_scaled, scaled_below, scaled, moved}
 use Rattle.dh_rows.proofs.Growing.{obeys_before, obeys_plain, plain_grows, pushed_grows}
 use Rattle.dh_rows.proofs.PutBehind.{shifted_behind, added_behind, bit_behind, below_behind}
 use Rattle.dh_rows.proofs.CountWords.{number_cut}
@@ -68,7 +68,7 @@ module _ (x : Readings) (width : ℕ) where
   wraps_as : (v : Option ℕ) (m n : ℕ) → m ≡ n → WrapsOr v m → WrapsOr v n
   wraps_as v m n e h = subst (λ i. WrapsOr v i) e h
 
-  shifted_wraps : (os : List Operation) → x.first ≤ length os → (value by n : ℕ) → Wraps value n → Obeys x (shifted os value by).operations → Wraps (shifted os value by).value (n * 2 ^ by)
+  shifted_wraps : (os : List Operation) → x.first ≤ length os → (value by n : ℕ) → Wraps value n → Obeys x (value_shifted os value by).operations → Wraps (value_shifted os value by).value (n * 2 ^ by)
   shifted_wraps os begun value by n is h = of (by == 0) refl h
     where
       of : (t : Bool) → (by == 0) ≡ t → Obeys x (if t then made os value else computed_with op.Shl value (constant_made os 6 by)).operations
@@ -82,8 +82,8 @@ module _ (x : Readings) (width : ℕ) where
           none by e = ap (λ i. n * 2 ^ i) (zero_is by e) ∙ omega arith
       of false e g = with_shows x os begun op.Shl value 6 by refl g ∙ (ap (λ w. binary_of op.Shl w (with_bits (kind.Unsigned 6) by)) is ∙ shift_wraps n by)
 
-  pub added_wraps : (os : List Operation) → x.first ≤ length os → (sum : Option ℕ) (value m n : ℕ) → WrapsOr sum m → Wraps value n → Obeys x (added os sum value).operations
-      → Wraps (added os sum value).value (m + n)
+  pub added_wraps : (os : List Operation) → x.first ≤ length os → (sum : Option ℕ) (value m n : ℕ) → WrapsOr sum m → Wraps value n → Obeys x (value_added os sum value).operations
+      → Wraps (value_added os sum value).value (m + n)
   added_wraps os begun None value m n s is h = is ∙ ap (λ i. with_bits (kind.Unsigned width) (i % 2 ^ width)) (none m s)
     where
       none : (m : ℕ) → m ≡ 0 → n ≡ m + n
@@ -108,12 +108,12 @@ module _ (x : Readings) (width : ℕ) where
       sums : factor / 2 ^ by % 2 ≡ 1 → n * high factor by ≡ n * high factor (suc by) + n * 2 ^ by
       sums on = ap (λ m. n * m) (high_on factor by on) ∙ spread (high factor (suc by)) (2 ^ by)
 
-      of : (t : Bool) → (factor / 2 ^ by % 2 == 1) ≡ t → Obeys x (if t then sum_of (added_with sum (shifted os value by)) else summed os sum).operations
-          → WrapsOr (if t then sum_of (added_with sum (shifted os value by)) else summed os sum).sum (n * high factor by)
+      of : (t : Bool) → (factor / 2 ^ by % 2 == 1) ≡ t → Obeys x (if t then sum_of (added_with sum (value_shifted os value by)) else summed os sum).operations
+          → WrapsOr (if t then sum_of (added_with sum (value_shifted os value by)) else summed os sum).sum (n * high factor by)
       of true e g =
           let behind = plain_grows _ _ (shifted_behind os value by) in
           wraps_as (Some _) _ _ (sym (sums (set _ e)))
-          (added_wraps (shifted os value by).operations (begun_behind x os _ behind begun) sum (shifted os value by).value (n * high factor (suc by)) (n * 2 ^ by) s
+          (added_wraps (value_shifted os value by).operations (begun_behind x os _ behind begun) sum (value_shifted os value by).value (n * high factor (suc by)) (n * 2 ^ by) s
           (shifted_wraps os begun value by n is (obeys_plain x _ _ (added_behind _ sum _) g)) g)
       of false e g = wraps_as sum _ _ (ap (λ m. n * m) (sym (high_off factor by (unset _ (mod-lt _ (omega arith)) e)))) s
 

@@ -59,8 +59,8 @@ IsTaken os t m = (os ≡ m.operations) × ((t.quotient ≡ m.quotient) × (t.res
 abbrev pub IsDivided : List Operation → Division → Divided → Type 0
 IsDivided os d m = (os ≡ m.operations) × ((d.quotient ≡ m.quotient) × (d.remainder ≡ m.remainder))
 
-abbrev pub IsSpread : List Operation → RowAndBank → Spread → Type 0
-IsSpread os s m = (os ≡ m.operations) × ((s.row ≡ m.row) × (s.bank ≡ m.bank))
+abbrev pub IsSpreadMade : List Operation → RowAndBank → Spread → Type 0
+IsSpreadMade os s m = (os ≡ m.operations) × ((s.row ≡ m.row) × (s.bank ≡ m.bank))
 
 abbrev pub IsSpanned : List Operation → (span : Option Span) → Spanned → Type 0
 IsSpanned os s m = (os ≡ m.operations) × (s ≡ m.span)
@@ -102,19 +102,19 @@ computed_with o left m = computed m.operations o left m.value
 abbrev pub bits_in : ℕ → ℕ
 bits_in n = 64 - leading_zeros w64 n
 
-abbrev pub shifted : List Operation → (value by : ℕ) → Made
-shifted os value by = if by == 0 then made os value else computed_with op.Shl value (constant_made os 6 by)
+abbrev pub value_shifted : List Operation → (value by : ℕ) → Made
+value_shifted os value by = if by == 0 then made os value else computed_with op.Shl value (constant_made os 6 by)
 
-abbrev pub added : List Operation → (sum : Option ℕ) → (value : ℕ) → Made
-added os None value = made os value
-added os (Some first) value = computed os op.Add first value
+abbrev pub value_added : List Operation → (sum : Option ℕ) → (value : ℕ) → Made
+value_added os None value = made os value
+value_added os (Some first) value = computed os op.Add first value
 
 abbrev pub added_with : (sum : Option ℕ) → Made → Made
-added_with sum m = added m.operations sum m.value
+added_with sum m = value_added m.operations sum m.value
 
 -- with this bit of the factor
 abbrev pub bit_scaled : List Operation → (value factor by : ℕ) → (sum : Option ℕ) → Summed
-bit_scaled os value factor by sum = if factor / 2 ^ by % 2 == 1 then sum_of (added_with sum (shifted os value by)) else summed os sum
+bit_scaled os value factor by sum = if factor / 2 ^ by % 2 == 1 then sum_of (added_with sum (value_shifted os value by)) else summed os sum
 
 -- with all bits below
 abbrev pub scaled_below : List Operation → (value factor bits : ℕ) → (sum : Option ℕ) → Summed
@@ -126,15 +126,15 @@ scaled os value factor = scaled_below os value factor (bits_in factor) None
 
 -- Quotients.
 
-abbrev pub twice : List Operation → (value : Option ℕ) → Summed
-twice os None = summed os None
-twice os (Some value) = sum_of (shifted os value 1)
+abbrev pub value_doubled : List Operation → (value : Option ℕ) → Summed
+value_doubled os None = summed os None
+value_doubled os (Some value) = sum_of (value_shifted os value 1)
 
 abbrev pub taken_last : (rest bit : ℕ) → Summed → Taken
-taken_last rest bit t = record { operations = (added t.operations t.sum bit).operations; quotient = Some (added t.operations t.sum bit).value; rest = rest }
+taken_last rest bit t = record { operations = (value_added t.operations t.sum bit).operations; quotient = Some (value_added t.operations t.sum bit).value; rest = rest }
 
 abbrev pub taken_bit : (quotient : Option ℕ) → (rest : ℕ) → Made → Taken
-taken_bit quotient rest bit = taken_last rest bit.value (twice bit.operations quotient)
+taken_bit quotient rest bit = taken_last rest bit.value (value_doubled bit.operations quotient)
 
 abbrev pub taken_rest : (width : ℕ) → (quotient : Option ℕ) → (holds : ℕ) → Made → Taken
 taken_rest width quotient holds rest = taken_bit quotient rest.value (converted rest.operations holds width)
@@ -148,14 +148,14 @@ taken_held width quotient rest part holds = taken_less width quotient rest holds
 abbrev pub taken_part : (width : ℕ) → (quotient : Option ℕ) → (rest : ℕ) → Made → Taken
 taken_part width quotient rest part = taken_held width quotient rest part.value (computed part.operations op.Ge rest part.value)
 
-abbrev pub taken : List Operation → (width : ℕ) → (quotient : Option ℕ) → (rest part : ℕ) → Taken
-taken os width quotient rest part = taken_part width quotient rest (constant_made os width part)
+abbrev pub constant_taken : List Operation → (width : ℕ) → (quotient : Option ℕ) → (rest part : ℕ) → Taken
+constant_taken os width quotient rest part = taken_part width quotient rest (constant_made os width part)
 
 abbrev pub taken_below : List Operation → (width banks bits : ℕ) → (quotient : Option ℕ) → (rest : ℕ) → Taken
 taken_below os width banks zero quotient rest = record { operations = os; quotient = quotient; rest = rest }
 taken_below os width banks (suc by) quotient rest =
-    taken_below (taken os width quotient rest (banks * 2 ^ by % 2 ^ 64)).operations width banks by (taken os width quotient rest (banks * 2 ^ by % 2 ^ 64)).quotient
-    (taken os width quotient rest (banks * 2 ^ by % 2 ^ 64)).rest
+    taken_below (constant_taken os width quotient rest (banks * 2 ^ by % 2 ^ 64)).operations width banks by (constant_taken os width quotient rest (banks * 2 ^ by % 2 ^ 64)).quotient
+    (constant_taken os width quotient rest (banks * 2 ^ by % 2 ^ 64)).rest
 
 abbrev pub division : Taken → Divided
 division t = record { operations = t.operations; quotient = t.quotient; remainder = Some t.rest }
@@ -202,7 +202,7 @@ times os (Some sum) factor = scaled os sum factor
 
 abbrev pub digit_behind : Summed → (digit : Option ℕ) → Summed
 digit_behind m None = m
-digit_behind m (Some digit) = sum_of (added m.operations m.sum digit)
+digit_behind m (Some digit) = sum_of (value_added m.operations m.sum digit)
 
 abbrev pub digit_added : List Operation → (sum : Option ℕ) → (factor : ℕ) → (digit : Option ℕ) → Summed
 digit_added os sum factor digit = digit_behind (times os sum factor) digit
@@ -229,10 +229,10 @@ all_spread os width _ _ banked row bank = record { operations = os; row = row; b
 abbrev pub bounded : List Operation → (width value bound : ℕ) → Summed
 bounded os width value bound = if nat_le (2 ^ width) bound then summed os None else sum_of (computed_with op.Lt value (constant_made os width bound))
 
-abbrev pub tested : List Operation → Kind → (value size : ℕ) → Summed
-tested os kind.Bool value size = summed os None
-tested os (kind.Unsigned width) value size = bounded os width value size
-tested os (kind.Signed width) value size = bounded (converted os value width).operations width (converted os value width).value (min size (2 ^ (width - 1)))
+abbrev pub value_tested : List Operation → Kind → (value size : ℕ) → Summed
+value_tested os kind.Bool value size = summed os None
+value_tested os (kind.Unsigned width) value size = bounded os width value size
+value_tested os (kind.Signed width) value size = bounded (converted os value width).operations width (converted os value width).value (min size (2 ^ (width - 1)))
 
 -- Indices behind a view.
 
@@ -241,7 +241,7 @@ abbrev pub moved_width : (size : ℕ) → ℕ
 moved_width size = 66 - leading_zeros w64 size
 
 abbrev pub moved_sum : (index : ℕ) → Summed → Made
-moved_sum index s = added s.operations s.sum index
+moved_sum index s = value_added s.operations s.sum index
 
 abbrev pub moved_index : (factor offset : ℕ) → Made → Made
 moved_index factor offset index = moved_sum index.value (scaled index.operations offset factor)
@@ -302,7 +302,7 @@ spanned os (kind.Signed width) value bound = centred_span os width value bound
 -- What each function promises of its result, where the list was the one and is now the other.
 
 abbrev pub TakesPart : (old new : List Operation) → (width : ℕ) → Taking → (part : ℕ) → Taking → Type 0
-TakesPart old new width before part t = IsTaken new t (taken old width before.quotient before.rest part)
+TakesPart old new width before part t = IsTaken new t (constant_taken old width before.quotient before.rest part)
 
 abbrev pub DividesLong : (old new : List Operation) → (width value banks length : ℕ) → Division → Type 0
 DividesLong old new width value banks length d = IsDivided new d (divided_long old width value banks length)
@@ -314,7 +314,7 @@ abbrev pub Divides : (old new : List Operation) → (width value : ℕ) → Dim 
 Divides old new width value dim banked d = IsDivided new d (divided old width value dim banked)
 
 abbrev pub SpreadsOne : (old new : List Operation) → (width : ℕ) → Dim → (index : ℕ) → (banked : Bool) → RowAndBank → RowAndBank → Type 0
-SpreadsOne old new width dim index banked before s = IsSpread new s (dim_spread old width dim index banked before.row before.bank)
+SpreadsOne old new width dim index banked before s = IsSpreadMade new s (dim_spread old width dim index banked before.row before.bank)
 
 abbrev pub SpreadsEach : (old new : List Operation) → (width : ℕ) → List Dim → (indices : List ℕ) → (banked : Bool) → RowAndBank → Type 0
-SpreadsEach old new width dims indices banked s = IsSpread new s (all_spread old width dims indices banked None None)
+SpreadsEach old new width dims indices banked s = IsSpreadMade new s (all_spread old width dims indices banked None None)

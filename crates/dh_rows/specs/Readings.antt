@@ -105,13 +105,13 @@ pub record AddsOperations (x : Readings) (clock : ℕ) (old new : List Operation
   pub each : (n : ℕ) (o : Operation) → length old ≤ n → slice_get new n ≡ Some o → Obeys x (take n new) → IsAdded x clock n o
 
 -- a value of the block, of this kind, that is there at a clock
-pub record Stands (x : Readings) (clock : ℕ) (os : List Operation) (k : Kind) (v : ℕ) : Type 0 where
+pub record StandsAtClock (x : Readings) (clock : ℕ) (os : List Operation) (k : Kind) (v : ℕ) : Type 0 where
   pub earlier : IsEarlierValue x clock (length os) v
   pub kind_is : x.kind v ≡ k
 
 -- once the signals obey
 abbrev pub IsReadingValue : (x : Readings) → (clock : ℕ) → List Operation → Kind → (v : ℕ) → Type 0
-IsReadingValue x clock os k v = Obeys x os → Stands x clock os k v
+IsReadingValue x clock os k v = Obeys x os → StandsAtClock x clock os k v
 
 -- a value, or none
 abbrev pub IsValueOrNone : (x : Readings) → (clock : ℕ) → List Operation → Kind → Option ℕ → Type 0

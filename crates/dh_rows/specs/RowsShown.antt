@@ -59,7 +59,7 @@ abbrev pub is_below_size : ℤ → (size : ℕ) → Bool
 is_below_size z size = int_le (pos 0) z && int_lt z (pos size)
 
 -- Operations that test a value of a kind.
-pub record IsTestMade (k : Kind) (value size : ℕ) (old new : List Operation) (test : Option ℕ) : Type 0 where
+pub record TestsValue (k : Kind) (value size : ℕ) (old new : List Operation) (test : Option ℕ) : Type 0 where
   pub adds : (x : Readings) (clock : ℕ) → x.first ≤ length old → IsReadingValue x clock old k value → AddsOperations x clock old new
   pub stands : (x : Readings) (clock : ℕ) → x.first ≤ length old → IsReadingValue x clock old k value → IsValueOrNone x clock new kind.Bool test
   pub shown : (x : Readings) → x.first ≤ length old → Obeys x new → IsWord (x.word value) → (x.word value).kind ≡ k → HoldsOrNone x test (is_below_size (value_of (x.word value)) size)
@@ -70,7 +70,7 @@ abbrev pub MakesRow : (old new : List Operation) → (width : ℕ) → List Dim 
 MakesRow old new width dims indices banked s = IsWideEnough width dims → IsRowMade width dims indices banked old new s.row s.bank
 
 abbrev pub MakesTest : (old new : List Operation) → Kind → (value size : ℕ) → Option ℕ → Type 0
-MakesTest old new k value size test = IsInteger k → IsTestMade k value size old new test
+MakesTest old new k value size test = IsInteger k → TestsValue k value size old new test
 
 -- Offsets.
 

@@ -2,7 +2,7 @@
 
 ghost use Rattle.std.specs.Prelude.{◌≡◌, ◌≤◌, IfOk};
 ghost use Rattle.dh_tree.specs.Shapes.{IsDim};
-ghost use Rattle.dh_rows.specs.MadeOperations.{Divides, DividesByPower, DividesLong, IsSummed, TakesPart, twice};
+ghost use Rattle.dh_rows.specs.MadeOperations.{Divides, DividesByPower, DividesLong, IsSummed, TakesPart, value_doubled};
 
 use crate::listing::{OperationList, push_compute, push_constant, push_convert, push_select};
 use crate::scaling::{push_shifted, push_sum};
@@ -48,7 +48,7 @@ fn take_part(
 
 /// Adds twice a value, if there is one.
 fn push_twice(list: &mut OperationList, value: Option<u64>) -> Result<Option<u64>, NoMemory>
-    ensures { IfOk result (λ s. IsSummed list.new s (twice list.old value)) }
+    ensures { IfOk result (λ s. IsSummed list.new s (value_doubled list.old value)) }
 {
     match value {
         None => Ok(None),

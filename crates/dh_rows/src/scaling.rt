@@ -1,7 +1,7 @@
 //! Multiples of a value by a number, as sums of shifts.
 
 ghost use Rattle.std.specs.Prelude.{◌≡◌, IfOk};
-ghost use Rattle.dh_rows.specs.MadeOperations.{IsMade, IsSummed, shifted, added, scaled};
+ghost use Rattle.dh_rows.specs.MadeOperations.{IsMade, IsSummed, value_shifted, value_added, scaled};
 
 use crate::listing::{OperationList, push_compute, push_constant};
 use crate::widths::{bit_length, has_bit};
@@ -10,7 +10,7 @@ use dh_value::Op;
 
 /// Adds a value shifted to the left by so many bits, fewer than 64.
 pub fn push_shifted(list: &mut OperationList, value: u64, by: u8) -> Result<u64, NoMemory>
-    ensures { IfOk result (λ n. IsMade list.new n (shifted list.old value by)) }
+    ensures { IfOk result (λ n. IsMade list.new n (value_shifted list.old value by)) }
 {
     if by == 0 {
         return Ok(value);
@@ -21,7 +21,7 @@ pub fn push_shifted(list: &mut OperationList, value: u64, by: u8) -> Result<u64,
 
 /// Adds the sum of a value and one that may lack, and is then 0.
 pub fn push_sum(list: &mut OperationList, sum: Option<u64>, value: u64) -> Result<u64, NoMemory>
-    ensures { IfOk result (λ n. IsMade list.new n (added list.old sum value)) }
+    ensures { IfOk result (λ n. IsMade list.new n (value_added list.old sum value)) }
 {
     match sum {
         None => Ok(value),

@@ -3,7 +3,7 @@
 ghost use Rattle.std.specs.Prelude.{◌≡◌, ◌-◌, ◌^◌, min, IfOk, OnOk};
 ghost use Rattle.dh_rows.specs.Readings.{GrowsPlain};
 ghost use Rattle.dh_rows.specs.RowsShown.{MakesTest};
-ghost use Rattle.dh_rows.specs.MadeOperations.{IsSummed, bounded, tested};
+ghost use Rattle.dh_rows.specs.MadeOperations.{IsSummed, bounded, value_tested};
 
 use crate::listing::{OperationList, push_compute, push_constant, push_convert};
 use crate::widths::has_few;
@@ -44,7 +44,7 @@ fn test_kind(
     value: u64,
     size: u64,
 ) -> Result<Option<u64>, NoMemory>
-    ensures { IfOk result (λ t. IsSummed list.new t (tested list.old kind value size)) }
+    ensures { IfOk result (λ t. IsSummed list.new t (value_tested list.old kind value size)) }
 {
     match kind {
         Kind::Bool => Ok(None),

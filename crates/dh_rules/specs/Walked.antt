@@ -16,14 +16,14 @@ abbrev pub context_seen : Context → placements.Context
 context_seen c = record { within = c.within; copied = c.copied; first = c.first; joins = c.joins }
 
 -- the breaches in a command, in a block that may lack, and in the parts of a block
-abbrev pub command_broken : List Entity → Context → Command → List Breach
-command_broken entities context c = action_placement_breaches entities (context_seen context) (action_seen c)
+abbrev pub misplaced_in : List Entity → Context → Command → List Breach
+misplaced_in entities context c = action_placement_breaches entities (context_seen context) (action_seen c)
 
-abbrev pub other_broken : List Entity → Context → Option (Box Command) → List Breach
-other_broken entities context block = other_placement_breaches entities (context_seen context) (maybe_block_seen block)
+abbrev pub misplaced_in_other : List Entity → Context → Option (Box Command) → List Breach
+misplaced_in_other entities context block = other_placement_breaches entities (context_seen context) (maybe_block_seen block)
 
-abbrev pub parts_broken : List Entity → Context → List (Vec Command Global) → List Breach
-parts_broken entities context parts = groups_placement_breaches entities (context_seen context) (all_parts_seen parts)
+abbrev pub misplaced_in_parts : List Entity → Context → List (Vec Command Global) → List Breach
+misplaced_in_parts entities context parts = groups_placement_breaches entities (context_seen context) (all_parts_seen parts)
 
 -- how many phases they have: none, one straight phase, or others
 abbrev pub command_steps : Command → ℕ

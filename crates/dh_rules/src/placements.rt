@@ -11,13 +11,14 @@ ghost use Rattle.dh_tree.specs.Told.{MayTellLeast, TellsLeast};
 ghost use Rattle.dh_tree.specs.ViewBreaches.{shapes_breaches_of};
 ghost use Rattle.dh_views.specs.Walked as walked;
 ghost use Rattle.dh_views.specs.Wanting.{WantsForViews};
-ghost use Rattle.dh_rules.specs.Walked.{command_broken, other_broken, parts_broken, command_steps, other_steps, parts_steps};
+ghost use Rattle.dh_rules.specs.Walked.{misplaced_in, misplaced_in_other, misplaced_in_parts, command_steps, other_steps, parts_steps};
 
 use crate::contexts::{Context, branched, in_body, in_combine, nothing_round};
 use crate::keeping::{is_from_outside, keep_if, names_iterator};
 use crate::reducers::{keep_combine, keep_joined, keep_reducer};
-use crate::steps::{behind, beside, choice, of_loop, of_view};
+use crate::steps::of_view;
 use dh_base::{PassFault, Rule};
+use dh_meaning::{kind_behind, kind_of_choice, kind_of_turns, turn_count};
 use dh_tree::{Breach, Command, CommandForm, Decl, Entity, Kind, Ref, Shape, Typed};
 use dh_views::{keep_decl_shapes, keep_own, keep_views};
 use std::alloc::Global;
@@ -58,11 +59,11 @@ fn keep_command(
     shapes: &mut Option<Breach>,
     places: &mut Option<Breach>,
     command: &Command,
-) -> u32
+) -> usize
     ensures shapes { shapes.new ≡ least_of shapes.old
         (walked.command_broken typed.now command.now) }
     ensures places { places.new ≡ least_of places.old
-        (command_broken typed.now.entities.items context.now command.now) }
+        (misplaced_in typed.now.entities.items context.now command.now) }
     ensures steps { result ≡ command_steps command.now }
 {
     keep_own(typed, shapes, command);
@@ -92,7 +93,7 @@ fn keep_command(
             let inner = branched(*context);
             let chosen = keep_command(typed, &inner, shapes, places, then);
             let others = keep_other(typed, &inner, shapes, places, other);
-            let steps = choice(chosen, others);
+            let steps = kind_of_choice(chosen, others);
             // copies may take different arms, and then would not take the same steps
             keep_if(
                 places,
@@ -119,7 +120,8 @@ fn keep_command(
             let joining = in_combine(*context, header.iterator.entity);
             let folds = keep_other(typed, &joining, shapes, places, combine);
             keep_combine(places, combine, header.combine_place);
-            of_loop(header.low, header.high, header.factor, turn, folds)
+            let turns = turn_count(header.low, header.high, header.factor);
+            kind_of_turns(turns, turn, folds)
         }
         CommandForm::Let { .. } => 1,
         CommandForm::Store { .. } => 1,
@@ -136,10 +138,10 @@ fn keep_other(
     shapes: &mut Option<Breach>,
     places: &mut Option<Breach>,
     other: &Option<Box<Command>>,
-) -> u32
+) -> usize
     ensures shapes { shapes.new ≡ least_of shapes.old (walked.other_broken typed.now other.now) }
     ensures places { places.new ≡ least_of places.old
-        (other_broken typed.now.entities.items context.now other.now) }
+        (misplaced_in_other typed.now.entities.items context.now other.now) }
     ensures steps { result ≡ other_steps other.now }
 {
     match other {
@@ -157,21 +159,21 @@ fn keep_groups(
     shapes: &mut Option<Breach>,
     places: &mut Option<Breach>,
     parts: &[Vec<Command>],
-) -> u32
+) -> usize
     ensures shapes { shapes.new ≡ least_of shapes.old (walked.parts_broken typed.now parts.now) }
     ensures places { places.new ≡ least_of places.old
-        (parts_broken typed.now.entities.items context.now parts.now) }
+        (misplaced_in_parts typed.now.entities.items context.now parts.now) }
     ensures steps { result ≡ parts_steps parts.now }
 {
-    let mut all: u32 = 0;
+    let mut all: usize = 0;
     for part in parts {
-        let mut most: u32 = 0;
+        let mut most: usize = 0;
         for command in part {
             let steps = keep_command(typed, context, shapes, places, command);
             keep_joined(context.joins, places, command);
-            most = beside(most, steps);
+            most = most.max(steps);
         }
-        all = behind(all, most);
+        all = kind_behind(all, most);
     }
     all
 }

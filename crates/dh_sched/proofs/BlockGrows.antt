@@ -8,13 +8,13 @@ use Rattle.std.proofs.lemmas.List.{get_or_append_left, append_assoc, append-nil,
 use Rattle.std.proofs.lemmas.Option.{slice_get_within, slice_get-get_or}
 use Rattle.dh_plan.specs.declared.operations.Operation.{Operation}
 use Rattle.dh_plan.specs.declared.schedules.Limits.{Limits}
-use Rattle.dh_plan.specs.LegalSchedules.{is_operator, is_product, greatest_number, needed_clock, depth_taken, depth_at, depths_behind, depths_in, products_at, IsWithin, AreLeast}
+use Rattle.dh_plan.specs.LegalSchedules.{is_operator, is_product, greatest_number, needed_clock, depth_taken, depth_at, depths_behind, depths_in, products_at, IsWithin, AreLeast, NeedsAreMet}
 use Rattle.dh_plan.specs.Ordered.{operation_takes, IsBetween, TakesEarlier, IsOrdered}
 use Rattle.dh_plan.proofs.ValuesAlike.{all_map}
 use Rattle.dh_plan.proofs.LeastLegal.{length_one_more, there_in_first, map_same, needed_same}
-use Rattle.dh_sched.specs.Sorts.{NeedsAreMet, AreShallow}
+use Rattle.dh_sched.specs.Sorts.{AreShallow}
 use Rattle.dh_sched.specs.FullClocks.{Fills}
-use Rattle.dh_sched.specs.LeastBlocks.{IsLeast, AreScheduled, AreDepths, AreCounts}
+use Rattle.dh_sched.specs.LeastBlocks.{IsLeastClock, AreScheduled, AreDepths, AreCounts}
 use Rattle.dh_sched.proofs.LeastStands.{same_or_not, not_equal, products_more}
 
 -- each of these operations takes values of earlier ones
@@ -24,17 +24,17 @@ TakeEarlier first os = (k : ℕ) (o : Operation) → slice_get os k ≡ Some o �
 -- Least clocks.
 
 pub least_more : (limits : Limits) (first : ℕ) (rest : List Operation) (rcs : List ℕ) (os : List Operation) (cs : List ℕ) (o : Operation) (c : ℕ) → length rcs ≡ length rest
-    → AreLeast limits first os cs rest rcs → IsLeast limits first (os ++ rest) (cs ++ rcs) o c → AreLeast limits first os cs (rest ++ o ∷ []) (rcs ++ c ∷ [])
+    → AreLeast limits first os cs rest rcs → IsLeastClock limits first (os ++ rest) (cs ++ rcs) o c → AreLeast limits first os cs (rest ++ o ∷ []) (rcs ++ c ∷ [])
 least_more limits first [] [] os cs o c long h least =
-    let x = subst (λ (ps : List Operation). IsLeast limits first ps (cs ++ []) o c) (append-nil os) least in (
-      subst (λ (ds : List ℕ). IsLeast limits first os ds o c) (append-nil cs) x,
+    let x = subst (λ (ps : List Operation). IsLeastClock limits first ps (cs ++ []) o c) (append-nil os) least in (
+      subst (λ (ds : List ℕ). IsLeastClock limits first os ds o c) (append-nil cs) x,
       tt,
     )
 least_more limits first [] (d ∷ rcs) os cs o c long h least = absurd (omega (arith, long))
 least_more limits first (p ∷ rest) [] os cs o c long h least = absurd h
 least_more limits first (p ∷ rest) (d ∷ rcs) os cs o c long h least =
-    let x = subst (λ (ps : List Operation). IsLeast limits first ps (cs ++ (d ∷ rcs)) o c) (sym (append_assoc os (p ∷ []) rest)) least in
-    let y = subst (λ (ds : List ℕ). IsLeast limits first ((os ++ p ∷ []) ++ rest) ds o c) (sym (append_assoc cs (d ∷ []) rcs)) x in (
+    let x = subst (λ (ps : List Operation). IsLeastClock limits first ps (cs ++ (d ∷ rcs)) o c) (sym (append_assoc os (p ∷ []) rest)) least in
+    let y = subst (λ (ds : List ℕ). IsLeastClock limits first ((os ++ p ∷ []) ++ rest) ds o c) (sym (append_assoc cs (d ∷ []) rcs)) x in (
       h.0,
       least_more limits first rest rcs (os ++ p ∷ []) (cs ++ d ∷ []) o c (omega (arith, long)) h.1 y,
     )
@@ -151,7 +151,7 @@ low_by (d ∷ cs) c bound low small (suc k) = low_by cs c bound (λ j. low (suc 
 -- One more operation.
 
 pub scheduled_more : (limits : Limits) (first : ℕ) (os : List Operation) (cs : List ℕ) (o : Operation) (c : ℕ) → TakeEarlier first os → TakesEarlier first (first + length os) o
-    → AreScheduled limits first os cs → IsLeast limits first os cs o c → c ≤ 2 * length os + 2 → AreScheduled limits first (os ++ o ∷ []) (cs ++ c ∷ [])
+    → AreScheduled limits first os cs → IsLeastClock limits first os cs o c → c ≤ 2 * length os + 2 → AreScheduled limits first (os ++ o ∷ []) (cs ++ c ∷ [])
 scheduled_more limits first os cs o c early own done least small =
     let lo = length_one_more os o in
     let lc = length_one_more cs c in
@@ -218,7 +218,7 @@ chain_within (suc limit) first os cs ds o c depths h = subst (λ (xs : List ℕ)
 pub grown : (limits : Limits) (first : ℕ) (os : List Operation) (i : ℕ) (o : Operation) → IsOrdered first os → i < length os → o ≡ get_or os i o
     → (cs own deep more : List ℕ) (c : ℕ) (ds new counts ways : List ℕ) → own ≡ cs → deep ≡ cs → more ≡ cs ++ c ∷ []
     → AreScheduled limits first (take i os) cs → AreDepths limits.chain first (take i os) cs ds
-    → IsLeast limits first (take i os) own o c → c ≤ 2 * length (take i os) + 2 → AreCounts limits.multipliers (take i os ++ o ∷ []) (own ++ c ∷ []) counts ways
+    → IsLeastClock limits first (take i os) own o c → c ≤ 2 * length (take i os) + 2 → AreCounts limits.multipliers (take i os ++ o ∷ []) (own ++ c ∷ []) counts ways
     → (1 ≤ limits.chain → new ≡ ds ++ depth_at first c deep ds o ∷ []) → AreShallow new
     → AreScheduled limits first (take (i + 1) os) more × (AreDepths limits.chain first (take (i + 1) os) more new × AreCounts limits.multipliers (take (i + 1) os) more counts ways)
 grown limits first os i o ordered within at cs own deep more c ds new counts ways eo ed em scheduled depths least low counted noted shallow =
@@ -226,7 +226,7 @@ grown limits first os i o ordered within at cs own deep more c ds new counts way
     let next : take (i + 1) os ≡ before ++ o ∷ [] = take_more os i o within ∙ ap (λ (p : Operation). before ++ p ∷ []) (sym at) in
     let early = early_before first os i ordered in
     let last = own_early first os i o ordered within at in
-    let stands = subst (λ (xs : List ℕ). IsLeast limits first before xs o c) eo least in
+    let stands = subst (λ (xs : List ℕ). IsLeastClock limits first before xs o c) eo least in
     let a = scheduled_more limits first before cs o c early last scheduled stands low in
     let b = depths_turn limits.chain first before cs o c ds new scheduled.long early last depths
     (λ one. noted one ∙ ap (λ (xs : List ℕ). ds ++ depth_at first c xs ds o ∷ []) ed) shallow in

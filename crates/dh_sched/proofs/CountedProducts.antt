@@ -5,7 +5,7 @@ use Rattle.std.specs.Prelude.{◌∷◌, ◌==◌, ◌&&◌, if◌then◌else◌
 use Rattle.std.proofs.lemmas.Bool.Decides.{nat_tests}
 use Rattle.dh_plan.specs.declared.operations.Operation.{Operation}
 use Rattle.dh_plan.specs.LegalSchedules.{is_product, products_at}
-use Rattle.dh_sched.specs.Sorts.{Counts, CountsProduct}
+use Rattle.dh_sched.specs.Sorts.{CountsWithinLimit, CountsProduct}
 
 -- one more of what is counted is one less of what is to come
 pub moved : (b : Bool) (x y p all : ℕ) → y ≡ (if b then suc x else x) → x + (if b then suc p else p) ≡ all → y + p ≡ all
@@ -23,7 +23,7 @@ counted_turn os cs i c limit o before after all here there counts so clock =
     moved (is_product o.form && (c == clock)) (before clock) (after clock) (products_at clock (drop (i + 1) os) (drop (i + 1) cs)) (all clock) (counts.1 clock) at
 
 -- no clock has more than the limit after one more that the limit allows
-pub still_few : (before after : ℕ → ℕ) (clock limit : ℕ) → Counts before after clock limit true → (other : ℕ) → before other ≤ limit → after other ≤ limit
+pub still_few : (before after : ℕ → ℕ) (clock limit : ℕ) → CountsWithinLimit before after clock limit true → (other : ℕ) → before other ≤ limit → after other ≤ limit
 still_few before after clock limit counts other few =
     let is = counts.1 other in
     let less = counts.0 in

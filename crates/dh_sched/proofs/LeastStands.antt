@@ -10,7 +10,7 @@ use Rattle.dh_plan.specs.declared.schedules.Limits.{Limits}
 use Rattle.dh_plan.specs.LegalSchedules.{is_read, is_operator, is_product, there_from, value_clock, greatest_number, needed_clock, depth_taken, depth_at, depths_in, products_at, IsWithin, MayStandAt}
 use Rattle.dh_plan.specs.Ordered.{operation_takes}
 use Rattle.dh_sched.specs.FullClocks.{Fills}
-use Rattle.dh_sched.specs.LeastBlocks.{Unchains, IsLeast, AreScheduled, AreDepths, AreCounts}
+use Rattle.dh_sched.specs.LeastBlocks.{Unchains, IsLeastClock, AreScheduled, AreDepths, AreCounts}
 
 pub less_or_not : (a b : ℕ) → (a < b) ⊎ (b ≤ a)
 less_or_not a b = grind arith
@@ -200,7 +200,7 @@ none_earlier limits first os cs o start clock earlier u room may (inl before) (i
 
 pub stands : (limits : Limits) (first : ℕ) (os : List Operation) (cs : List ℕ) (o : Operation) (start clock : ℕ)
     → Unchains limits.chain (depth_at first (needed_clock first os cs o) cs (depths_in first os cs) o) (needed_clock first os cs o) start
-    → start ≤ clock → RoomFrom limits.multipliers os cs o start clock → IsLeast limits first os cs o clock
+    → start ≤ clock → RoomFrom limits.multipliers os cs o start clock → IsLeastClock limits first os cs o clock
 stands limits first os cs o start clock u later room = (
   record {
     needs = let e = starts_late (needed_clock first os cs o) start limits.chain (depth_at first (needed_clock first os cs o) cs (depths_in first os cs) o) u in omega (arith, e, later);
@@ -226,7 +226,7 @@ needed_below limits first os cs taken o needed is takes scheduled =
 pub least_found : (limits : Limits) (first : ℕ) (os : List Operation) (cs ds taken : List ℕ) (o : Operation) (needed start clock : ℕ) (counts ways after ways' : List ℕ)
     → needed ≡ greatest_number (map (value_clock first os cs) taken) → taken ≡ operation_takes o → AreScheduled limits first os cs → AreDepths limits.chain first os cs ds
     → AreCounts limits.multipliers os cs counts ways → Unchains limits.chain (depth_at first needed cs ds o) needed start
-    → Fills limits.multipliers (is_product o.form) start clock counts after ways' → IsLeast limits first os cs o clock
+    → Fills limits.multipliers (is_product o.form) start clock counts after ways' → IsLeastClock limits first os cs o clock
 least_found limits first os cs ds taken o needed start clock counts ways after ways' is takes scheduled depths counted u fills =
     let e = needed_is first os cs taken o needed is takes in
     let told = unchains_told limits.chain (depth_at first needed cs ds o) (depth_at first needed cs (depths_in first os cs) o) needed start

@@ -9,13 +9,13 @@ abbrev pub AreFull : (limit : ℕ) → (counts : List ℕ) → (start end : ℕ)
 AreFull limit counts start end = (at : ℕ) → start ≤ at → at < end → limit ≤ slice_index counts at
 
 -- a way leads over clocks without room, and a clock without room has one
-pub record IsWay (limit : ℕ) (counts : List ℕ) (at next : ℕ) : Type 0 where
+pub record SkipsFullClocks (limit : ℕ) (counts : List ℕ) (at next : ℕ) : Type 0 where
   pub full : AreFull limit counts at next
   pub ends : next ≤ length counts
   pub goes : limit ≤ slice_index counts at → at < next
 
-abbrev pub AreWays : (limit : ℕ) → (counts ways : List ℕ) → Type 0
-AreWays limit counts ways = (at : ℕ) → IsWay limit counts at (slice_index ways at)
+abbrev pub WaysSkipFullClocks : (limit : ℕ) → (counts ways : List ℕ) → Type 0
+WaysSkipFullClocks limit counts ways = (at : ℕ) → SkipsFullClocks limit counts at (slice_index ways at)
 
 -- a clock was tried: it has room, or a later one is to be tried
 abbrev pub HasTried : (limit : ℕ) → (counts : List ℕ) → (at : ℕ) → Option ℕ → Type 0
@@ -42,7 +42,7 @@ pub record Fills (limit : ℕ) (product : Bool) (start clock : ℕ) (before afte
   pub unlimited : limit ≡ 0 → clock ≡ start
   pub room : 1 ≤ limit → IsTrue product → FindsRoom limit before start clock
   pub counted : 1 ≤ limit → (at : ℕ) → slice_index after at ≡ (if product && (clock == at) then suc (slice_index before at) else slice_index before at)
-  pub ways_kept : 1 ≤ limit → AreWays limit after ways
+  pub ways_kept : 1 ≤ limit → WaysSkipFullClocks limit after ways
   pub both : length ways ≡ length after
   pub long : length after ≤ max (length before) (clock + 1)
 

@@ -3,18 +3,18 @@ use Rattle.std.specs.Prelude.{◌≡◌, ◌⊎◌, ℕ, ◌+◌, ◌*◌, ◌<�
 use Rattle.dh_plan.specs.declared.operations.Operation.{Operation}
 use Rattle.dh_plan.specs.declared.operations.PlanBlock.{PlanBlock}
 use Rattle.dh_plan.specs.declared.schedules.Limits.{Limits}
-use Rattle.dh_plan.specs.LegalSchedules.{IsWithin, MayStandAt, AreLeast, products_at, depth_at, depths_in, IsLegalBlock}
+use Rattle.dh_plan.specs.LegalSchedules.{IsWithin, MayStandAt, AreLeast, products_at, depth_at, depths_in, IsLegalBlock, NeedsAreMet}
 use Rattle.dh_plan.specs.PlainPlans.{operations_before, block_operations}
-use Rattle.dh_sched.specs.Sorts.{NeedsAreMet, KeepsProducts, KeepsChains, AreShallow}
-use Rattle.dh_sched.specs.FullClocks.{AreWays}
+use Rattle.dh_sched.specs.Sorts.{KeepsProducts, KeepsChains, AreShallow}
+use Rattle.dh_sched.specs.FullClocks.{WaysSkipFullClocks}
 
 -- a clock that leaves the one from which on all is there, if the chain that ends there exceeds the limit
 abbrev pub Unchains : (limit depth needed start : ℕ) → Type 0
 Unchains limit depth needed start = ((start ≡ needed) × IsWithin limit depth) ⊎ ((start ≡ needed + 1) × (IsWithin limit depth → ⊥))
 
 -- a clock is the least at which an operation may stand
-abbrev pub IsLeast : Limits → (first : ℕ) → (before : List Operation) → (clocks : List ℕ) → Operation → (clock : ℕ) → Type 0
-IsLeast limits first before clocks o clock =
+abbrev pub IsLeastClock : Limits → (first : ℕ) → (before : List Operation) → (clocks : List ℕ) → Operation → (clock : ℕ) → Type 0
+IsLeastClock limits first before clocks o clock =
     MayStandAt limits first before clocks o clock × ((earlier : ℕ) → MayStandAt limits first before clocks o earlier → clock ≤ earlier)
 
 -- the first operations of a block stand at these clocks
@@ -38,7 +38,7 @@ NotesDepth limit first clock clocks o old new = 1 ≤ limit → new ≡ old ++ d
 -- the counts of multiplications are told, where there is a limit, and ways lead over full clocks
 pub record AreCounts (limit : ℕ) (os : List Operation) (clocks counts ways : List ℕ) : Type 0 where
   pub told : 1 ≤ limit → (clock : ℕ) → slice_index counts clock ≡ products_at clock os clocks
-  pub ways_kept : 1 ≤ limit → AreWays limit counts ways
+  pub ways_kept : 1 ≤ limit → WaysSkipFullClocks limit counts ways
   pub both : length ways ≡ length counts
   pub short : length counts ≤ 2 * length os + 1
 

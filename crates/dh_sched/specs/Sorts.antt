@@ -15,10 +15,6 @@ abbrev pub is_times : Op → Bool
 is_times op.Mul = true
 is_times _ = false
 
--- each operation of a block stands where all is there that it takes
-abbrev pub NeedsAreMet : (first : ℕ) → List Operation → (clocks : List ℕ) → Type 0
-NeedsAreMet first os clocks = (i : ℕ) (o : Operation) → slice_get os i ≡ Some o → needed_clock first os clocks o ≤ slice_index clocks i
-
 -- the clock from which on all of these values are there
 abbrev pub all_there_at : (first : ℕ) → List Operation → (clocks taken : List ℕ) → ℕ
 all_there_at first os clocks taken = greatest_number (map (value_clock first os clocks) taken)
@@ -36,8 +32,8 @@ abbrev pub DecidesBlock : Limits → (first : ℕ) → List Operation → (clock
 DecidesBlock limits first os clocks block_length result = IfOk result (λ legal. IsTrue legal ↔ IsLegalBlock limits first os clocks block_length)
 
 -- clocks that leave room for two more
-abbrev pub AreSmall : (clocks : List ℕ) → Type 0
-AreSmall clocks = (k : ℕ) → slice_index clocks k + 2 < 2 ^ 128
+abbrev pub AreSmallClocks : (clocks : List ℕ) → Type 0
+AreSmallClocks clocks = (k : ℕ) → slice_index clocks k + 2 < 2 ^ 128
 
 -- depths that leave room for one more
 abbrev pub AreShallow : (depths : List ℕ) → Type 0
@@ -49,9 +45,9 @@ IsLater o clock clocks_long last None = clocks_long ≤ there_at o.form clock
 IsLater o clock clocks_long last (Some greatest) = (there_at o.form clock < clocks_long) × (greatest ≡ max last (there_at o.form clock))
 
 -- one more is counted at a clock, or it has so many that the limit allows no more
-abbrev pub Counts : (before after : ℕ → ℕ) → (clock limit : ℕ) → Bool → Type 0
-Counts before after clock limit true = (before clock < limit) × ((other : ℕ) → after other ≡ (if other == clock then suc (before other) else before other))
-Counts before after clock limit false = limit ≤ before clock
+abbrev pub CountsWithinLimit : (before after : ℕ → ℕ) → (clock limit : ℕ) → Bool → Type 0
+CountsWithinLimit before after clock limit true = (before clock < limit) × ((other : ℕ) → after other ≡ (if other == clock then suc (before other) else before other))
+CountsWithinLimit before after clock limit false = limit ≤ before clock
 
 -- an operation is counted at its clock, if it is a multiplication
 abbrev pub CountsProduct : Operation → (before after : ℕ → ℕ) → (clock limit : ℕ) → Bool → Type 0

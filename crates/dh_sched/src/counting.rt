@@ -1,7 +1,7 @@
 //! How many multiplications stand at each clock, whatever the clocks.
 
 ghost use Rattle.std.specs.Prelude.{◌≡◌, ◌↔◌, IsTrue, length, IfOk};
-ghost use Rattle.dh_sched.specs.Sorts.{Counts, KeepsProducts, MapCountsProduct, count_in};
+ghost use Rattle.dh_sched.specs.Sorts.{CountsWithinLimit, KeepsProducts, MapCountsProduct, count_in};
 
 use crate::kinds::is_product;
 use dh_base::NoMemory;
@@ -11,7 +11,7 @@ use std::collections::BTreeMap;
 
 // Counts one more at a clock, where the limit allows it.
 fn count_one(counts: &mut BTreeMap<u128, u32>, clock: u128, limit: u32) -> Result<bool, NoMemory>
-    ensures { IfOk result (λ kept. Counts (count_in counts.old) (count_in counts.new) clock limit
+    ensures { IfOk result (λ kept. CountsWithinLimit (count_in counts.old) (count_in counts.new) clock limit
         kept) }
 {
     let count = match counts.get(&clock) {

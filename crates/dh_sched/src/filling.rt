@@ -3,7 +3,7 @@
 //! so that all walks of a block together take few steps for each multiplication: O(log n), and nearly one as a rule.
 
 ghost use Rattle.std.specs.Prelude.{ℕ, ◌≡◌, ◌+◌, ◌<◌, ◌≤◌, ◌^◌, max, length, slice_index, OnOk};
-ghost use Rattle.dh_sched.specs.FullClocks.{AreWays, HasTried, CountsAt, PlacesForm, FindsRoom};
+ghost use Rattle.dh_sched.specs.FullClocks.{WaysSkipFullClocks, HasTried, CountsAt, PlacesForm, FindsRoom};
 
 use crate::kinds::is_product;
 use dh_base::NoMemory;
@@ -33,8 +33,8 @@ fn count_at(counts: &[u32], at: usize) -> u32
 fn next_to_try(limit: u32, counts: &[u32], ways: &mut [usize], at: usize) -> Option<usize>
     requires one { 1 ≤ limit }
     requires both { length ways.old ≡ length counts.now }
-    requires ways { AreWays limit counts.now ways.old }
-    ensures ways { AreWays limit counts.now ways.new }
+    requires ways { WaysSkipFullClocks limit counts.now ways.old }
+    ensures ways { WaysSkipFullClocks limit counts.now ways.new }
     ensures tried { HasTried limit counts.now at result }
 {
     if count_at(counts, at) < limit {
@@ -50,8 +50,8 @@ fn next_to_try(limit: u32, counts: &[u32], ways: &mut [usize], at: usize) -> Opt
 fn first_room(limit: u32, counts: &[u32], ways: &mut [usize], start: usize) -> usize
     requires one { 1 ≤ limit }
     requires both { length ways.old ≡ length counts.now }
-    requires ways { AreWays limit counts.now ways.old }
-    ensures ways { AreWays limit counts.now ways.new }
+    requires ways { WaysSkipFullClocks limit counts.now ways.old }
+    ensures ways { WaysSkipFullClocks limit counts.now ways.new }
     ensures found { FindsRoom limit counts.now start result }
 {
     let mut at = start;
@@ -97,13 +97,13 @@ fn fill(
 ) -> Result<(), NoMemory>
     requires small { clock + 1 < 2 ^ 64 }
     requires both { length ways.old.items ≡ length counts.old.items }
-    requires ways { AreWays limit counts.old.items ways.old.items }
+    requires ways { WaysSkipFullClocks limit counts.old.items ways.old.items }
     requires room { slice_index counts.old.items clock < limit }
     ensures both { OnOk result (length ways.new.items ≡ length counts.new.items) }
     ensures long { OnOk result (length counts.new.items
         ≡ max (length counts.old.items) (clock + 1)) }
     ensures counts { OnOk result (CountsAt counts.old.items counts.new.items clock) }
-    ensures ways { OnOk result (AreWays limit counts.new.items ways.new.items) }
+    ensures ways { OnOk result (WaysSkipFullClocks limit counts.new.items ways.new.items) }
 {
     reach(counts, ways, clock)?;
     let count = count_at(counts.as_slice(), clock) + 1;
@@ -123,7 +123,7 @@ pub fn place_from(
     requires start { start + 1 < 2 ^ 64 }
     requires long { length counts.old.items + 1 < 2 ^ 64 }
     requires both { length ways.old.items ≡ length counts.old.items }
-    requires ways { 1 ≤ limit → AreWays limit counts.old.items ways.old.items }
+    requires ways { 1 ≤ limit → WaysSkipFullClocks limit counts.old.items ways.old.items }
     ensures { PlacesForm limit form.now start counts.old.items counts.new.items ways.new.items
         result }
 {

@@ -2,8 +2,8 @@
 
 ghost use Rattle.std.specs.Prelude.{◌≡◌, ◌↔◌, ◌+◌, ◌≤◌, IsTrue, suc, slice_index, length, IfOk};
 ghost use Rattle.dh_plan.specs.LegalSchedules as definitions;
-ghost use Rattle.dh_plan.specs.LegalSchedules.{last_clock};
-ghost use Rattle.dh_sched.specs.Sorts.{all_there_at, AreSmall, IsLater, NeedsAreMet};
+ghost use Rattle.dh_plan.specs.LegalSchedules.{last_clock, NeedsAreMet};
+ghost use Rattle.dh_sched.specs.Sorts.{all_there_at, AreSmallClocks, IsLater};
 
 use crate::kinds::{is_read, there_at};
 use crate::taking::note_taken;
@@ -119,7 +119,7 @@ pub fn is_end(operations: &[Operation], clocks: &[u128], block_length: u128) -> 
 
 // When the value of this number is there.
 fn value_clock(first: u64, operations: &[Operation], clocks: &[u128], number: u64) -> u128
-    requires { AreSmall clocks.now }
+    requires { AreSmallClocks clocks.now }
     ensures { result ≡ definitions.value_clock first operations.now clocks.now number }
 {
     let at = number.saturating_sub(first) as usize;
@@ -132,7 +132,7 @@ fn value_clock(first: u64, operations: &[Operation], clocks: &[u128], number: u6
 
 /// The clock from which on all of these values are there.
 pub fn needed_clock(first: u64, operations: &[Operation], clocks: &[u128], taken: &[u64]) -> u128
-    requires { AreSmall clocks.now }
+    requires { AreSmallClocks clocks.now }
     ensures { result ≡ all_there_at first operations.now clocks.now taken.now }
 {
     let mut needed = 0;
@@ -144,7 +144,7 @@ pub fn needed_clock(first: u64, operations: &[Operation], clocks: &[u128], taken
 
 /// The length of a block with these clocks.
 pub fn block_length(operations: &[Operation], clocks: &[u128]) -> u128
-    requires small { AreSmall clocks.now }
+    requires small { AreSmallClocks clocks.now }
     requires long { length clocks.now ≡ length operations.now }
     ensures { result ≡ suc (last_clock operations.now clocks.now) }
 {

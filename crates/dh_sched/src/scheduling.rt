@@ -6,8 +6,8 @@ ghost use Rattle.dh_plan.specs.LegalSchedules.{IsLeastSchedule, IsWithin};
 ghost use Rattle.dh_plan.specs.Ordered.{operation_takes, IsOrdered, AreOrdered};
 ghost use Rattle.dh_plan.specs.Passes.{timing_seen};
 ghost use Rattle.dh_plan.specs.SeenPlans.{plan_seen};
-ghost use Rattle.dh_sched.specs.Sorts.{AreShallow, AreSmall};
-ghost use Rattle.dh_sched.specs.LeastBlocks.{Unchains, IsLeast, AreScheduled, AreDepths, AreCounts, NotesDepth};
+ghost use Rattle.dh_sched.specs.Sorts.{AreShallow, AreSmallClocks};
+ghost use Rattle.dh_sched.specs.LeastBlocks.{Unchains, IsLeastClock, AreScheduled, AreDepths, AreCounts, NotesDepth};
 
 use crate::chains::depth_at;
 use crate::filling::place_from;
@@ -90,7 +90,7 @@ fn least_clock(
     requires depths { AreDepths limits.chain first before.now clocks.now depths.now }
     requires counts { AreCounts limits.multipliers before.now clocks.now counts.old.items
         ways.old.items }
-    ensures least { IfOk result (λ clock. IsLeast limits first before.now clocks.now operation.now
+    ensures least { IfOk result (λ clock. IsLeastClock limits first before.now clocks.now operation.now
         clock) }
     ensures low { IfOk result (λ clock. clock ≤ 2 * length before.now + 2) }
     ensures counts { IfOk result (λ clock. AreCounts limits.multipliers
@@ -119,7 +119,7 @@ fn block_clocks(
 ) -> Result<Vec<u128>, NoMemory>
     requires { IsOrdered first operations.now }
     ensures scheduled { IfOk result (λ v. AreScheduled limits first operations.now v.items) }
-    ensures small { IfOk result (λ v. AreSmall v.items) }
+    ensures small { IfOk result (λ v. AreSmallClocks v.items) }
 {
     let mut clocks = Vec::with_capacity(alloc, operations.len())?;
     let mut depths = Vec::new(alloc);

@@ -31,7 +31,7 @@ use Rattle.dh_sem.specs.declared.stepping.Course as code
 use Rattle.dh_sem.specs.Frames.{IsBlockOf, StandsFor}
 use Rattle.dh_sem.specs.Lanes.{AreLanes, LeadsInto}
 use Rattle.dh_sem.specs.Phased.{IsPhase}
-use Rattle.dh_sem.specs.Steps.{HoldsSo, RunsBlock, TestsAll, course_seen}
+use Rattle.dh_sem.specs.Steps.{HoldsSo, RunsBlock, TestsAllPaths, course_seen}
 use Rattle.dh_sem.proofs.TurnsBegun.{row_of, rows_over}
 
 some_same : {A : Type 0} (a b : A) → Some a ≡ Some b → a ≡ b
@@ -107,7 +107,7 @@ module _ (s : Scene) (old : State) (lanes : Lanes) (f : Flat) (i : ℕ) (now : S
           more j e = omega (arith, e)
 
   pub tests_stop : (x : Stop) (new : State) (result : Result Bool Stop) → result ≡ Err x → Decides s now (Err x) new row.items f
-      → TestsAll s old result new lanes f
+      → TestsAllPaths s old result new lanes f
   tests_stop x new result stopped d p factors t are flat can = (
     λ e k.
         let so = g.ran p factors t are flat can e k in
@@ -119,7 +119,7 @@ module _ (s : Scene) (old : State) (lanes : Lanes) (f : Flat) (i : ℕ) (now : S
     λ e k. subst (λ (r : Result Bool Stop). IfOk r (λ holds. holds_at (begun_in s) e.variables t (first_path (paths_in factors)) ≡ holds)) (sym stopped) tt,
   )
 
-pub tests_end : (s : Scene) (old : State) (lanes : Lanes) (f : Flat) (i : ℕ) (now : State) (first : Bool) → TestsSoFar s old lanes f i now first → length lanes.rows.items ≤ i → TestsAll s old (Ok first) now lanes f
+pub tests_end : (s : Scene) (old : State) (lanes : Lanes) (f : Flat) (i : ℕ) (now : State) (first : Bool) → TestsSoFar s old lanes f i now first → length lanes.rows.items ≤ i → TestsAllPaths s old (Ok first) now lanes f
 tests_end s old lanes f i now first g over p factors t are flat can = (
   λ e k.
       let so = g.ran p factors t are flat can e k in
@@ -177,7 +177,7 @@ module _ (s : Scene) (c : code.Course) (old : State) (number : ℕ) (phase : Pha
       by (looping test body) b are h block = absurd h
       by (choosing test chosen other) b are h block = absurd h
 
-  pub loop_runs : (result : Result Bool Stop) (new : State) (f : Flat) (list : Option ℕ) → phase.form ≡ Loop f list → TestsAll s old result new lanes f → RunsBlock s c old result new number
+  pub loop_runs : (result : Result Bool Stop) (new : State) (f : Flat) (list : Option ℕ) → phase.form ≡ Loop f list → TestsAllPaths s old result new lanes f → RunsBlock s c old result new number
   loop_runs result new f list is tested p factors q b stands block = by q b (stood p factors q stands).0 (subst (λ (g : Form). IsPhase s.entries.now p (course_seen s c) factors number g q) is (stood p factors q stands).1) block
     where
       by : (q : CorePhase) (b : Block) → AreLanes factors lanes → IsPhase s.entries.now p (course_seen s c) factors number (Loop f list) q → IsBlockOf q b
@@ -189,7 +189,7 @@ module _ (s : Scene) (c : code.Course) (old : State) (number : ℕ) (phase : Pha
           (tested p factors test are flat can.1)
       by (choosing test chosen other) b are h block = absurd h
 
-  pub choice_runs : (result : Result Bool Stop) (new : State) (f : Flat) (one two : Option ℕ) → phase.form ≡ Choice f one two → TestsAll s old result new lanes f → RunsBlock s c old result new number
+  pub choice_runs : (result : Result Bool Stop) (new : State) (f : Flat) (one two : Option ℕ) → phase.form ≡ Choice f one two → TestsAllPaths s old result new lanes f → RunsBlock s c old result new number
   choice_runs result new f one two is tested p factors q b stands block = by q b (stood p factors q stands).0 (subst (λ (g : Form). IsPhase s.entries.now p (course_seen s c) factors number g q) is (stood p factors q stands).1) block
     where
       by : (q : CorePhase) (b : Block) → AreLanes factors lanes → IsPhase s.entries.now p (course_seen s c) factors number (Choice f one two) q → IsBlockOf q b

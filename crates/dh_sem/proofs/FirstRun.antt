@@ -39,7 +39,7 @@ use Rattle.dh_sem.specs.declared.starting.Begun as starting
 use Rattle.dh_sem.specs.Held.{HoldsProgram, IsSoundMade, course_made}
 use Rattle.dh_sem.specs.Phased.{AreLinked, ArePhases, Course, IsSoundFrame}
 use Rattle.dh_sem.specs.Runs.{IsSteady, StandsAt, place_outcome}
-use Rattle.dh_sem.specs.Starts.{IsBegun, IsUnused, StandsFirst, run_begun}
+use Rattle.dh_sem.specs.Starts.{IsBegunRun, IsUnused, ReachesFirstBlock, run_begun}
 use Rattle.dh_sem.specs.Steps.{Arrives, GoesOn, OnlyVariables, course_of}
 use Rattle.dh_sem.proofs.SmallMemories.{fits_small}
 use Rattle.dh_sem.proofs.Stepped.{coursed_as, run_at, stands_placed}
@@ -239,7 +239,7 @@ unused_as slots slots' operations operations' banks banks' state s o b h = recor
 
 -- what a run begins with that goes to the first block of what was made of its program
 pub begun_as : (p : Program) (table : List MemEntry) (b : starting.Begun) (first : Option ℕ) (old : State) (cc : code.Course) → table ≡ table_of p → IsProgramTable (table_of p) → HoldsProgram p b.made first → AreFirsts table b.firsts.items
-    → IsUnused (slots_of p) (length b.made.code.operations) (all_banks table) old → cc.phases.now ≡ b.made.phases.items → cc.lanes.now ≡ b.made.lanes.items → StandsFirst cc first b.place old b.state b.frames.items → IsBegun p b
+    → IsUnused (slots_of p) (length b.made.code.operations) (all_banks table) old → cc.phases.now ≡ b.made.phases.items → cc.lanes.now ≡ b.made.lanes.items → ReachesFirstBlock cc first b.place old b.state b.frames.items → IsBegunRun p b
 begun_as p table b first old cc tabled t holds firsts unused phases lanes stands = record {
   steady = λ outcome memories fits.
       subst (λ (x : List MemEntry). IsSteady (run_begun x b outcome memories) b.state.given.items b.state.banks.items b.firsts.items) tabled

@@ -6,9 +6,9 @@ use Rattle.std.proofs.lemmas.Bool.Decides.{nat_tests}
 use Rattle.std.proofs.lemmas.List.{reverse-append}
 use Rattle.dh_tree.specs.declared.tables.MemEntry.{MemEntry}
 use Rattle.dh_meaning.specs.Core.{CoreTerm, Turning, CorePhase, turning, looping, choosing, CorePhases}
-use Rattle.dh_meaning.specs.Effects.{Begun, Variables, tests, holds_at}
+use Rattle.dh_meaning.specs.Effects.{Begun, Variables, holds_at}
 use Rattle.dh_meaning.specs.Paths.{paths_in}
-use Rattle.dh_meaning.specs.Runs.{RunNext, next, ended, at as block_at, RunTodo, over, phases_then, turn_then, test_then, again_then, pick_then, enter, first_path, inner_paths, next_of, turn_begun}
+use Rattle.dh_meaning.specs.Runs.{RunNext, next, ended, RunTodo, over, phases_then, turn_then, test_then, again_then, pick_then, enter, first_path, inner_paths, next_of, turn_begun}
 use Rattle.dh_code.specs.declared.codes.Code.{Code}
 use Rattle.dh_code.specs.declared.running.State.{State}
 use Rattle.dh_code.specs.Declarations.{factors_inside}
@@ -21,10 +21,10 @@ use Rattle.dh_sem.specs.declared.phases.Frame.TheVariants.{List as Rest, Turn, T
 use Rattle.dh_sem.specs.declared.phases.Phase.{Phase}
 use Rattle.dh_sem.specs.declared.phases.Turns as turns
 use Rattle.dh_sem.specs.declared.stepping.Course as code
-use Rattle.dh_sem.specs.Frames.{AreToCome, IsFirst, IsSettled, StandsFor}
+use Rattle.dh_sem.specs.Frames.{AreToCome, IsFirst, BeginsWithoutTest, StandsFor}
 use Rattle.dh_sem.specs.Lanes.{AreLanes}
-use Rattle.dh_sem.specs.Phased.{ArePhases, Course, IsPhase, IsSome, IsSoundFrame, arm_of, turns_in}
-use Rattle.dh_sem.specs.Steps.{Arrives, BeginsTurn, Descends, DescendsTo, Follows, FollowsTo, GoesOn, HoldsFirst, Lightens, NowhereIfNone, OnlyVariables, course_of, frame_weight, weight_of}
+use Rattle.dh_sem.specs.Phased.{ArePhases, Course, IsPhase, IsSome, IsSoundFrame, taken_branch, turns_in}
+use Rattle.dh_sem.specs.Steps.{Arrives, BeginsTurn, Descends, DescendsTo, FollowsFrame, FollowsTo, GoesOn, FirstTestHolds, Lightens, NowhereIfNone, OnlyVariables, course_of, frame_weight, weight_of}
 use Rattle.dh_sem.proofs.Going.{come_more, inner_is, nothing_of}
 use Rattle.dh_sem.proofs.TurnsBegun.{only_none, only_then}
 
@@ -142,13 +142,13 @@ module _ (table : List MemEntry) (p : Placing) (c : Course) where
   the_turns factors number (Loop f list) t loop body e h = absurd h
   the_turns factors number (Choice f one two) t loop body e h = absurd h
 
-  pub loop_body : (factors : List ℕ) (number : ℕ) (form : Form) (test : CoreTerm) (body : CorePhases) (holds : Bool) → IsPhase table p c factors number form (looping test body) → ArePhases table p c factors (arm_of form holds) body
+  pub loop_body : (factors : List ℕ) (number : ℕ) (form : Form) (test : CoreTerm) (body : CorePhases) (holds : Bool) → IsPhase table p c factors number form (looping test body) → ArePhases table p c factors (taken_branch form holds) body
   loop_body factors number (Straight list) test body holds h = absurd h
   loop_body factors number (Turns t) test body holds h = absurd h
   loop_body factors number (Loop f list) test body holds (flat, (can, (early, are))) = are
   loop_body factors number (Choice f one two) test body holds h = absurd h
 
-  pub chosen_arm : (factors : List ℕ) (number : ℕ) (form : Form) (test : CoreTerm) (chosen other : CorePhases) → IsPhase table p c factors number form (choosing test chosen other) → (holds : Bool) → ArePhases table p c factors (arm_of form holds) (if holds then chosen else other)
+  pub chosen_arm : (factors : List ℕ) (number : ℕ) (form : Form) (test : CoreTerm) (chosen other : CorePhases) → IsPhase table p c factors number form (choosing test chosen other) → (holds : Bool) → ArePhases table p c factors (taken_branch form holds) (if holds then chosen else other)
   chosen_arm factors number (Straight list) test chosen other h holds = absurd h
   chosen_arm factors number (Turns t) test chosen other h holds = absurd h
   chosen_arm factors number (Loop f list) test chosen other h holds = absurd h
@@ -160,7 +160,7 @@ ok_both (Ok a) P Q h k = (h, k)
 ok_both (Err e) P Q h k = tt
 
 -- what was settled begins with no test
-pub settled_holds : (b : Begun) (v : Variables) (k : RunTodo) (holds : Bool) → IsSettled k → HoldsFirst b v k holds
+pub settled_holds : (b : Begun) (v : Variables) (k : RunTodo) (holds : Bool) → BeginsWithoutTest k → FirstTestHolds b v k holds
 settled_holds b v over holds h = tt
 settled_holds b v (phases_then paths qs k) holds h = tt
 settled_holds b v (turn_then paths loop t body k) holds h = tt
@@ -180,33 +180,12 @@ counted_on turn count b e = (λ l. sym e ∙ yes_so l, λ l. sym e ∙ no_more l
 module _ (x : code.Course) where
   -- Turns.
 
-  pub turn_lost : (number turn : ℕ) (phase : Phase) (holds : Bool) (old : State) (fs : List Frame) → slice_get x.phases.now number ≡ Some phase → turns_in phase.form ≡ None → Follows x (Turn number turn) holds None old old fs fs
-  turn_lost number turn phase holds old fs get none table p made b v k behind first settled come h hf =
-      let c = course_of made x in
-      let f = first_turn table p c number turn k behind first in
-      absurd (no_turns table p c f.factors number phase.form f.loop f.body none (form_of table p c f.factors number phase (turning f.loop f.body) get f.stands))
-
   turns_count : (table : List MemEntry) (p : Placing) (made : Code) (factors : List ℕ) (number : ℕ) (t : turns.Turns) (loop : Turning) (body : CorePhases) → IsPhase table p (course_of made x) factors number (Turns t) (turning loop body) → t.count ≡ loop.count
   turns_count table p made factors number t loop body (turned, rest) = turned.count
 
-  pub turn_over : (number turn : ℕ) (phase : Phase) (t : turns.Turns) (holds : Bool) (old : State) (fs : List Frame) → slice_get x.phases.now number ≡ Some phase → turns_in phase.form ≡ Some t → t.count ≤ turn + 1 → Follows x (Turn number turn) holds None old old fs fs
-  turn_over number turn phase t holds old fs get is past table p made b v k behind first settled come h hf =
-      let c = course_of made x in
-      let f = first_turn table p c number turn k behind first in
-      let does = the_turns table p c f.factors number phase.form t f.loop f.body is (form_of table p c f.factors number phase (turning f.loop f.body) get f.stands) in
-      let same = turns_count table p made f.factors number t f.loop f.body does in
-      let stop : nat_lt (suc turn) f.loop.count ≡ false = (counted_on turn f.loop.count (nat_lt (suc turn) f.loop.count) refl).1 (subst (λ (n : ℕ). n ≤ turn + 1) same past) in
-      let n = enter (inner_paths (paths_in f.factors) f.loop) f.body (turn_then (paths_in f.factors) f.loop (suc turn) f.body behind) (next ended v) (turn_begun f.loop (suc turn) (inner_paths (paths_in f.factors) f.loop) v) in
-      record {
-        todo = behind;
-        are = come;
-        settled = settled;
-        same = sym (ap (λ l. next_of b l v) f.is ∙ ap (λ t. if t then n else next_of b behind v) stop);
-      }
-
   pub turn_next : (number turn later : ℕ) (phase : Phase) (t : turns.Turns) (lanes : Lanes) (holds : Bool) (found : Option ℕ) (old mid new : State) (fs gs hs : List Frame) → slice_get x.phases.now number ≡ Some phase → turns_in phase.form ≡ Some t → later ≡ turn + 1 → later < t.count
       → slice_get x.lanes.now t.inside ≡ Some lanes → BeginsTurn old mid lanes t later → gs ≡ fs ++ Turn number later ∷ [] → IsSome t.body → NowhereIfNone t.body found mid new gs hs → Descends x t.body found mid new gs hs
-      → Follows x (Turn number turn) holds found old new fs hs
+      → FollowsFrame x (Turn number turn) holds found old new fs hs
   turn_next number turn later phase t lanes holds found old mid new fs gs hs get is next_is below in_lanes begun pushed some nowhere d table p made b v k behind first settled come h hf =
       let c = course_of made x in
       let f = first_turn table p c number turn k behind first in
@@ -253,7 +232,7 @@ module _ (x : code.Course) where
 
   -- a list leads into its first block, or to what lies behind
   into_list : (table : List MemEntry) (p : Placing) (made : Code) (b : Begun) (v : Variables) (factors : List ℕ) (qs : CorePhases) (list found : Option ℕ) (k : RunTodo) (old new : State) (fs gs : List Frame)
-      → ArePhases table p (course_of made x) factors list qs → AreToCome table p (course_of made x) (reverse fs) k → IsSettled k → NowhereIfNone list found old new fs gs
+      → ArePhases table p (course_of made x) factors list qs → AreToCome table p (course_of made x) (reverse fs) k → BeginsWithoutTest k → NowhereIfNone list found old new fs gs
       → DescendsTo table p (course_of made x) found new gs (enter (paths_in factors) qs k (next_of b k v) v) → FollowsTo table p (course_of made x) b v (enter (paths_in factors) qs k (next_of b k v) v) found new gs
   into_list table p made b v factors qs list None k old new fs gs are come settled nowhere d = record {
     todo = k;
@@ -263,7 +242,7 @@ module _ (x : code.Course) where
   }
   into_list table p made b v factors qs list (Some n) k old new fs gs are come settled nowhere d = d
 
-  pub list_follows : (list found : Option ℕ) (holds : Bool) (old new : State) (fs gs : List Frame) → NowhereIfNone list found old new fs gs → Descends x list found old new fs gs → Follows x (Rest list) holds found old new fs gs
+  pub list_follows : (list found : Option ℕ) (holds : Bool) (old new : State) (fs gs : List Frame) → NowhereIfNone list found old new fs gs → Descends x list found old new fs gs → FollowsFrame x (Rest list) holds found old new fs gs
   list_follows list found holds old new fs gs nowhere d table p made b v k behind first settled come h hf =
       let c = course_of made x in
       let f = first_list table p c list k behind first in
@@ -277,46 +256,33 @@ module _ (x : code.Course) where
       less a b e = omega (arith, e)
   light_list list (Some n) frame old new fs gs some h = tt
 
-  pub pick_follows : (number : ℕ) (phase : Phase) (found : Option ℕ) (holds : Bool) (old new : State) (fs gs : List Frame) → slice_get x.phases.now number ≡ Some phase → NowhereIfNone (arm_of phase.form holds) found old new fs gs
-      → Descends x (arm_of phase.form holds) found old new fs gs → Follows x (Pick number) holds found old new fs gs
+  pub pick_follows : (number : ℕ) (phase : Phase) (found : Option ℕ) (holds : Bool) (old new : State) (fs gs : List Frame) → slice_get x.phases.now number ≡ Some phase → NowhereIfNone (taken_branch phase.form holds) found old new fs gs
+      → Descends x (taken_branch phase.form holds) found old new fs gs → FollowsFrame x (Pick number) holds found old new fs gs
   pick_follows number phase found holds old new fs gs get nowhere d table p made b v k behind first settled come h hf =
       let c = course_of made x in
       let f = first_pick table p c number k behind first in
       subst (λ (l : RunTodo). FollowsTo table p c b v (next_of b l v) found new gs) (sym f.is)
       (by f.factors f.test f.chosen f.other (chosen_arm table p c f.factors number phase.form f.test f.chosen f.other (form_of table p c f.factors number phase (choosing f.test f.chosen f.other) get f.stands) holds)
-      (subst (λ (l : RunTodo). HoldsFirst b v l holds) f.is hf))
+      (subst (λ (l : RunTodo). FirstTestHolds b v l holds) f.is hf))
     where
       one : (holds : Bool) (factors : List ℕ) (chosen other : CorePhases) → (if holds then enter (paths_in factors) chosen behind (next_of b behind v) v else enter (paths_in factors) other behind (next_of b behind v) v) ≡ enter (paths_in factors) (if holds then chosen else other) behind (next_of b behind v) v
       one true factors chosen other = refl
       one false factors chosen other = refl
 
-      by : (factors : List ℕ) (test : CoreTerm) (chosen other : CorePhases) → ArePhases table p (course_of made x) factors (arm_of phase.form holds) (if holds then chosen else other) → holds_at b v test (first_path (paths_in factors)) ≡ holds
+      by : (factors : List ℕ) (test : CoreTerm) (chosen other : CorePhases) → ArePhases table p (course_of made x) factors (taken_branch phase.form holds) (if holds then chosen else other) → holds_at b v test (first_path (paths_in factors)) ≡ holds
           → FollowsTo table p (course_of made x) b v (next_of b (pick_then (paths_in factors) test chosen other behind) v) found new gs
       by factors test chosen other are so =
           subst (λ (n : RunNext). FollowsTo table p (course_of made x) b v n found new gs)
           (sym (ap (λ t. if t then enter (paths_in factors) chosen behind (next_of b behind v) v else enter (paths_in factors) other behind (next_of b behind v) v) so ∙ one holds factors chosen other))
-          (into_list table p made b v factors (if holds then chosen else other) (arm_of phase.form holds) found behind old new fs gs are come settled nowhere
+          (into_list table p made b v factors (if holds then chosen else other) (taken_branch phase.form holds) found behind old new fs gs are come settled nowhere
           (d table p made factors (if holds then chosen else other) behind (next_of b behind v) v are come settled h))
 
-  pub test_stops : (number : ℕ) (old : State) (fs : List Frame) → Follows x (Test number) false None old old fs fs
-  test_stops number old fs table p made b v k behind first settled come h hf =
-      let c = course_of made x in
-      let f = first_test table p c number k behind first in
-      let so = subst (λ (l : RunTodo). HoldsFirst b v l false) f.is hf in
-      record {
-        todo = behind;
-        are = come;
-        settled = settled;
-        same = sym (ap (λ l. next_of b l v) f.is
-            ∙ ap (λ t. if t then enter (paths_in f.factors) f.body (again_then (paths_in f.factors) f.test f.body behind) (next (block_at (paths_in f.factors) (tests f.test) (test_then (paths_in f.factors) f.test f.body behind)) v) v else next_of b behind v) so);
-      }
-
-  pub test_follows : (number : ℕ) (phase : Phase) (found : Option ℕ) (old new : State) (fs gs hs : List Frame) → slice_get x.phases.now number ≡ Some phase → gs ≡ fs ++ Again number ∷ [] → NowhereIfNone (arm_of phase.form true) found old new gs hs
-      → Descends x (arm_of phase.form true) found old new gs hs → Follows x (Test number) true found old new fs hs
+  pub test_follows : (number : ℕ) (phase : Phase) (found : Option ℕ) (old new : State) (fs gs hs : List Frame) → slice_get x.phases.now number ≡ Some phase → gs ≡ fs ++ Again number ∷ [] → NowhereIfNone (taken_branch phase.form true) found old new gs hs
+      → Descends x (taken_branch phase.form true) found old new gs hs → FollowsFrame x (Test number) true found old new fs hs
   test_follows number phase found old new fs gs hs get pushed nowhere d table p made b v k behind first settled come h hf =
       let c = course_of made x in
       let f = first_test table p c number k behind first in
-      subst (λ (l : RunTodo). FollowsTo table p c b v (next_of b l v) found new hs) (sym f.is) (by f.factors f.test f.body f.stands (subst (λ (l : RunTodo). HoldsFirst b v l true) f.is hf))
+      subst (λ (l : RunTodo). FollowsTo table p c b v (next_of b l v) found new hs) (sym f.is) (by f.factors f.test f.body f.stands (subst (λ (l : RunTodo). FirstTestHolds b v l true) f.is hf))
     where
       by : (factors : List ℕ) (test : CoreTerm) (body : CorePhases) → StandsFor table p (course_of made x) factors number (looping test body) → holds_at b v test (first_path (paths_in factors)) ≡ true
           → FollowsTo table p (course_of made x) b v (next_of b (test_then (paths_in factors) test body behind) v) found new hs
@@ -326,7 +292,7 @@ module _ (x : code.Course) where
           let are = loop_body table p c factors number phase.form test body true (form_of table p c factors number phase (looping test body) get stands) in
           let come' = come_more table p c fs gs (Again number) k' behind pushed (factors, (refl, (refl, stands))) settled come in
           subst (λ (n : RunNext). FollowsTo table p c b v n found new hs) (sym (ap (λ t. if t then enter (paths_in factors) body k' (next_of b k' v) v else next_of b behind v) so))
-          (into_list table p made b v factors body (arm_of phase.form true) found k' old new gs hs are come' tt nowhere (d table p made factors body k' (next_of b k' v) v are come' tt h))
+          (into_list table p made b v factors body (taken_branch phase.form true) found k' old new gs hs are come' tt nowhere (d table p made factors body k' (next_of b k' v) v are come' tt h))
 
   pub test_light : (number : ℕ) (list found : Option ℕ) (old new : State) (fs gs hs : List Frame) → gs ≡ fs ++ Again number ∷ [] → NowhereIfNone list found old new gs hs → Lightens found (Test number) old new fs hs
   test_light number list None old new fs gs hs pushed h = (h.state, subst (λ (l : List Frame). weight_of l < 2 + weight_of fs) (sym (h.frames ∙ pushed)) (less fs))
@@ -339,7 +305,7 @@ module _ (x : code.Course) where
           by a b c e = omega (arith, e)
   test_light number list (Some n) old new fs gs hs pushed h = tt
 
-  pub again_follows : (number : ℕ) (holds : Bool) (old : State) (fs gs : List Frame) → gs ≡ fs ++ Test number ∷ [] → Follows x (Again number) holds (Some number) old old fs gs
+  pub again_follows : (number : ℕ) (holds : Bool) (old : State) (fs gs : List Frame) → gs ≡ fs ++ Test number ∷ [] → FollowsFrame x (Again number) holds (Some number) old old fs gs
   again_follows number holds old fs gs pushed table p made b v k behind first settled come h hf =
       let c = course_of made x in
       let f = first_again table p c number k behind first in
@@ -370,7 +336,7 @@ module _ (x : code.Course) where
   -- Frames.
 
   first_come : (table : List MemEntry) (p : Placing) (made : Code) (fs gs : List Frame) (frame : Frame) (k : RunTodo) → fs ≡ gs ++ frame ∷ [] → AreToCome table p (course_of made x) (reverse fs) k
-      → (behind : RunTodo) × (IsFirst table p (course_of made x) frame k behind × (IsSettled behind × AreToCome table p (course_of made x) (reverse gs) behind))
+      → (behind : RunTodo) × (IsFirst table p (course_of made x) frame k behind × (BeginsWithoutTest behind × AreToCome table p (course_of made x) (reverse gs) behind))
   first_come table p made fs gs frame k is come = subst (λ (l : List Frame). AreToCome table p (course_of made x) l k) (ap (λ l. reverse l) is ∙ reverse-append gs (frame ∷ [])) come
 
   pub none_goes : (holds : Bool) (old new : State) (fs gs : List Frame) → fs ≡ [] → new ≡ old → GoesOn x None old new fs gs holds
@@ -378,12 +344,12 @@ module _ (x : code.Course) where
       let none : k ≡ over = subst (λ (l : List Frame). AreToCome table p (course_of made x) (reverse l) k) empty come in
       subst (λ (l : RunTodo). Arrives table p (course_of made x) (next_of b l v) new None gs) (sym none) (record { variables = subst (λ (s : State). Holds p s.variables.items v) (sym same) h; place = tt })
 
-  pub some_goes : (holds : Bool) (number : ℕ) (frame : Frame) (old new : State) (fs gs hs : List Frame) → fs ≡ gs ++ frame ∷ [] → Follows x frame holds (Some number) old new gs hs → GoesOn x (Some number) old new fs hs holds
+  pub some_goes : (holds : Bool) (number : ℕ) (frame : Frame) (old new : State) (fs gs hs : List Frame) → fs ≡ gs ++ frame ∷ [] → FollowsFrame x frame holds (Some number) old new gs hs → GoesOn x (Some number) old new fs hs holds
   some_goes holds number frame old new fs gs hs is follows table p made b v k come h hf =
       let f = first_come table p made fs gs frame k is come in
       follows table p made b v k f.0 f.1.0 f.1.1.0 f.1.1.1 h hf
 
-  pub further_goes : (holds : Bool) (found : Option ℕ) (frame : Frame) (old mid new : State) (fs gs hs ks : List Frame) → fs ≡ gs ++ frame ∷ [] → mid ≡ old → Follows x frame holds None old mid gs hs → GoesOn x found mid new hs ks holds → GoesOn x found old new fs ks holds
+  pub further_goes : (holds : Bool) (found : Option ℕ) (frame : Frame) (old mid new : State) (fs gs hs ks : List Frame) → fs ≡ gs ++ frame ∷ [] → mid ≡ old → FollowsFrame x frame holds None old mid gs hs → GoesOn x found mid new hs ks holds → GoesOn x found old new fs ks holds
   further_goes holds found frame old mid new fs gs hs ks is same follows goes table p made b v k come h hf =
       let f = first_come table p made fs gs frame k is come in
       let g = follows table p made b v k f.0 f.1.0 f.1.1.0 f.1.1.1 h hf in
@@ -413,7 +379,7 @@ pub gone_first : (x : code.Course) (holds : Bool) (old : State) (fs : List Frame
 gone_first x holds old fs sound = record { only = only_none old; sound = sound; goes = λ found new ks g. g }
 
 module _ (x : code.Course) (holds : Bool) (old now : State) (before fs : List Frame) (so : GoneSoFar x holds old before now fs) where
-  pub gone_more : (frame : Frame) (mid : State) (gs hs : List Frame) → fs ≡ gs ++ frame ∷ [] → mid ≡ now → OnlyVariables now mid → AllByRecursion (IsSoundFrame (length x.phases.now)) hs → Follows x frame holds None now mid gs hs
+  pub gone_more : (frame : Frame) (mid : State) (gs hs : List Frame) → fs ≡ gs ++ frame ∷ [] → mid ≡ now → OnlyVariables now mid → AllByRecursion (IsSoundFrame (length x.phases.now)) hs → FollowsFrame x frame holds None now mid gs hs
       → GoneSoFar x holds old before mid hs
   gone_more frame mid gs hs is same only sound follows = record {
     only = only_then old now mid so.only only;
@@ -421,7 +387,7 @@ module _ (x : code.Course) (holds : Bool) (old now : State) (before fs : List Fr
     goes = λ found new ks g. so.goes found new ks (further_goes x holds found frame now mid new fs gs hs ks is same follows g);
   }
 
-  pub gone_to : (number : ℕ) (frame : Frame) (new : State) (gs hs : List Frame) → fs ≡ gs ++ frame ∷ [] → Follows x frame holds (Some number) now new gs hs → GoesOn x (Some number) old new before hs holds
+  pub gone_to : (number : ℕ) (frame : Frame) (new : State) (gs hs : List Frame) → fs ≡ gs ++ frame ∷ [] → FollowsFrame x frame holds (Some number) now new gs hs → GoesOn x (Some number) old new before hs holds
   gone_to number frame new gs hs is follows = so.goes (Some number) new hs (some_goes x holds number frame now new fs gs hs is follows)
 
   pub gone_over : (ks : List Frame) → fs ≡ [] → GoesOn x None old now before ks holds

@@ -42,7 +42,7 @@ use Rattle.dh_sem.specs.declared.phases.Form.{Form}
 use Rattle.dh_sem.specs.declared.phases.Form.TheVariants as formed
 use Rattle.dh_sem.specs.declared.phases.Phase.{Phase}
 use Rattle.dh_sem.specs.declared.phases.Turns.{Turns}
-use Rattle.dh_sem.specs.Held.{FixesForm, HasTest, HoldsList, IsSoundMade, MoreMade, course_made, turns_counted}
+use Rattle.dh_sem.specs.Held.{FixesForm, HoldsTestCode, HoldsList, IsSoundMade, MoreMade, course_made, turns_counted}
 use Rattle.dh_sem.specs.Lanes.{LeadsInside, MoreLanes}
 use Rattle.dh_sem.specs.Phased.{IsLinkedPhase, IsPhase, IsSoundCourse}
 use Rattle.dh_sem.specs.Runnable.{CanRunAll, CanTurn}
@@ -121,7 +121,7 @@ straight_fixed names paths old new cs commands list are flattens phases lanes p 
 tested_by : (known : Known) (c : Located) (t : Term) → Some t ≡ test_of (action_form_of c.command) → core_test known c ≡ core_term known c.first t
 tested_by known c t is = ap (λ o. core_test_of known c.first o) (sym is)
 
-module _ (names : Names) (p : Placing) (placing : IsPlacingOf p names) (old new : Made) (test : Expr) (f : Flat) (n : ℕ) (t : CoreTerm) (is : t ≡ core_term (known_by_names names) n (term_seen test)) (h : HasTest names old new test f) (suits : IsSuited (table_in names) t) where
+module _ (names : Names) (p : Placing) (placing : IsPlacingOf p names) (old new : Made) (test : Expr) (f : Flat) (n : ℕ) (t : CoreTerm) (is : t ≡ core_term (known_by_names names) n (term_seen test)) (h : HoldsTestCode names old new test f) (suits : IsSuited (table_in names) t) where
   abbrev written : CoreTerm
   written = core_term (known_by_names names) n (term_seen test)
 
@@ -146,7 +146,7 @@ module _ (names : Names) (p : Placing) (placing : IsPlacingOf p names) (old new 
   )
 
 -- a `while`
-pub loop_fixed : (names : Names) (paths : ℕ) (old coded new : Made) (c : Numbered) (test : Expr) (gathered : AllGathered) (f : Flat) (first : Option ℕ) → HasTest names old coded test f → HoldsList names paths coded new gathered first
+pub loop_fixed : (names : Names) (paths : ℕ) (old coded new : Made) (c : Numbered) (test : Expr) (gathered : AllGathered) (f : Flat) (first : Option ℕ) → HoldsTestCode names old coded test f → HoldsList names paths coded new gathered first
     → FixesForm names paths old new (loop_phase c (Some (term_seen test)) gathered) (formed.Loop f first)
 loop_fixed names paths old coded new c test gathered f first tests holds p factors (straight ls) placing alike turned can = absurd alike
 loop_fixed names paths old coded new c test gathered f first tests holds p factors (turns loop count body) placing alike turned can = absurd alike
@@ -168,7 +168,7 @@ loop_fixed names paths old coded new c test gathered f first tests holds p facto
     }
 
 -- an `if` of which an arm is not straight
-pub choice_fixed : (names : Names) (paths : ℕ) (old coded between new : Made) (c : Numbered) (test : Expr) (gathered gathered' : AllGathered) (f : Flat) (one two : Option ℕ) → HasTest names old coded test f
+pub choice_fixed : (names : Names) (paths : ℕ) (old coded between new : Made) (c : Numbered) (test : Expr) (gathered gathered' : AllGathered) (f : Flat) (one two : Option ℕ) → HoldsTestCode names old coded test f
     → HoldsList names paths coded between gathered one → HoldsList names paths between new gathered' two → FixesForm names paths old new (choice_phase c (Some (term_seen test)) gathered gathered') (formed.Choice f one two)
 choice_fixed names paths old coded between new c test gathered gathered' f one two tests holds holds' p factors (straight ls) placing alike turned can = absurd alike
 choice_fixed names paths old coded between new c test gathered gathered' f one two tests holds holds' p factors (turns loop count body) placing alike turned can = absurd alike

@@ -21,7 +21,7 @@ use Rattle.dh_sem.specs.declared.phases.Frame.TheVariants.{List as Rest, Turn, T
 use Rattle.dh_sem.specs.declared.phases.Phase.{Phase}
 use Rattle.dh_sem.specs.declared.phases.Turns as turns
 use Rattle.dh_sem.specs.declared.stepping.Course as code
-use Rattle.dh_sem.specs.Frames.{AreToCome, IsFirst, IsSettled, StandsFor}
+use Rattle.dh_sem.specs.Frames.{AreToCome, IsFirst, BeginsWithoutTest, StandsFor}
 use Rattle.dh_sem.specs.Lanes.{AreLanes, LeadsInto}
 use Rattle.dh_sem.specs.Phased.{ArePhases, Course, IsPhase, IsSome}
 use Rattle.dh_sem.specs.Steps.{Arrives, BeginsTurn, Descends, DescendsTo, NowhereIfNone, course_of}
@@ -38,7 +38,7 @@ inner_is factors loop = by (nat_lt 1 loop.factor)
     by false = refl
 
 module _ (table : List MemEntry) (p : Placing) (c : Course) where
-  pub come_more : (fs gs : List Frame) (f : Frame) (k behind : RunTodo) → gs ≡ fs ++ f ∷ [] → IsFirst table p c f k behind → IsSettled behind → AreToCome table p c (reverse fs) behind → AreToCome table p c (reverse gs) k
+  pub come_more : (fs gs : List Frame) (f : Frame) (k behind : RunTodo) → gs ≡ fs ++ f ∷ [] → IsFirst table p c f k behind → BeginsWithoutTest behind → AreToCome table p c (reverse fs) behind → AreToCome table p c (reverse gs) k
   come_more fs gs f k behind is first settled come = subst (λ (l : List Frame). AreToCome table p c l k) (sym (ap (λ l. reverse l) is ∙ reverse-append fs (f ∷ []))) (behind, (first, (settled, come)))
 
   -- a list that begins at a phase
@@ -75,7 +75,7 @@ module _ (table : List MemEntry) (p : Placing) (c : Course) where
 
   -- into a phase whose block comes first
   module _ (factors : List ℕ) (number : ℕ) (phase : Phase) (get : slice_get c.phases number ≡ Some phase) (qs : CorePhases) (e : Enters factors number phase qs) (k : RunTodo) (behind : RunNext) (v : Variables) (new : State)
-      (fs gs : List Frame) (pushed : gs ≡ fs ++ Rest phase.next ∷ []) (settled : IsSettled k) (come : AreToCome table p c (reverse fs) k) (h : Holds p new.variables.items v) where
+      (fs gs : List Frame) (pushed : gs ≡ fs ++ Rest phase.next ∷ []) (settled : BeginsWithoutTest k) (come : AreToCome table p c (reverse fs) k) (h : Holds p new.variables.items v) where
     abbrev paths : List Path
     paths = paths_in factors
 
@@ -98,7 +98,7 @@ module _ (table : List MemEntry) (p : Placing) (c : Course) where
         by (choosing test chosen other) does h' = absurd h'
 
   module _ (factors : List ℕ) (number : ℕ) (phase : Phase) (get : slice_get c.phases number ≡ Some phase) (qs : CorePhases) (e : Enters factors number phase qs) (k : RunTodo) (behind : RunNext) (v : Variables) (new : State)
-      (fs gs is_gs : List Frame) (f : Frame) (pushed : gs ≡ fs ++ Rest phase.next ∷ []) (pushed' : is_gs ≡ gs ++ f ∷ []) (settled : IsSettled k) (come : AreToCome table p c (reverse fs) k) (h : Holds p new.variables.items v) where
+      (fs gs is_gs : List Frame) (f : Frame) (pushed : gs ≡ fs ++ Rest phase.next ∷ []) (pushed' : is_gs ≡ gs ++ f ∷ []) (settled : BeginsWithoutTest k) (come : AreToCome table p c (reverse fs) k) (h : Holds p new.variables.items v) where
     abbrev paths_here : List Path
     paths_here = paths_in factors
 

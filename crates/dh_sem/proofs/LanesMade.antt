@@ -6,9 +6,8 @@ use Rattle.std.specs.Global.{Global}
 use Rattle.std.specs.List.{range_with_len}
 use Rattle.std.proofs.lemmas.Bool.Decides.{nat_tests}
 use Rattle.std.proofs.Math.Nat.{mul-le-mul_left}
-use Rattle.std.proofs.lemmas.List.{drop_all, length-append, length-map, map-append}
+use Rattle.std.proofs.lemmas.List.{length-append, length-map, map-append}
 use Rattle.std.proofs.Math.Seq.{drop-cons}
-use Rattle.std.proofs.lemmas.Option.{slice_get_within}
 use Rattle.dh_meaning.specs.Paths.{Path, all_copies, copies_of, paths_in, outer_paths}
 use Rattle.dh_code.specs.Declarations.{factors_inside}
 use Rattle.dh_code.specs.Ranks.{IsPath, copies_in, rank_of, ranks_of}
@@ -98,12 +97,6 @@ long_rows rows old row before n is =
 leads_before : (old new : List Lanes) (number : ℕ) (fs : List ℕ) → MoreLanes old new → LeadsInto old number fs → LeadsInto new number fs
 leads_before old new number fs more h = record { found = h.found; there = ap (λ l. slice_get l number) more.are ∙ get_before old more.more number h.found h.there; are = h.are }
 
-pub leads_later : (old new : List Lanes) (number : ℕ) (fs : List ℕ) → MoreLanes old new → LeadsInto old number fs → LeadsInto new number fs
-leads_later = leads_before
-
-pub lanes_within : (lanes : List Lanes) (number : ℕ) (fs : List ℕ) → LeadsInto lanes number fs → number < length lanes
-lanes_within lanes number fs h = slice_get_within lanes number h.found h.there
-
 -- a loop of one copy adds none
 pub inside_same : (old : List Lanes) (outside factor : ℕ) → outside < length old → factor ≤ 1 → LanesInside old old outside factor outside
 inside_same old outside factor there one = record {
@@ -183,10 +176,6 @@ rows_more rows new outer i f row ranks whole within is are added so =
   where
     next : (n : ℕ) → n + 1 ≡ suc n
     next n = omega arith
-
-pub rows_all : (rows outer : List (Vec ℕ Global)) (i f : ℕ) (whole : List (List ℕ)) → length outer ≤ i → contents_of rows ++ copied_rows (length rows) f (contents_of (drop i outer)) ≡ whole → contents_of rows ≡ whole
-rows_all rows outer i f whole past so =
-    sym (append-nil (contents_of rows)) ∙ (ap (λ l. contents_of rows ++ copied_rows (length rows) f (contents_of l)) (sym (drop_all i outer past)) ∙ so)
 
 -- numbers, one after the other
 range_more : (a n : ℕ) → range_with_len a (suc n) ≡ range_with_len a n ++ (a + n) ∷ []

@@ -1,16 +1,12 @@
 -- Lists that begin earlier, turns that are counted, and frames that are sound.
-use Rattle.std.proofs.Common.{◌≡◌, ℕ, ◌+◌, ◌*◌, ◌-◌, ◌^◌, ◌<◌, ◌≤◌, Bool, true, false, List, [], ◌∷◌, ◌++◌, Some, None, sym, subst, arith}
+use Rattle.std.proofs.Common.{◌≡◌, ℕ, ◌+◌, ◌*◌, ◌-◌, ◌^◌, ◌<◌, ◌≤◌, Bool, true, false, List, ◌∷◌, ◌++◌, Some, None, subst, arith}
 use Rattle.std.specs.Prelude.{Option}
-use Rattle.std.specs.List.{AllByRecursion}
 use Rattle.std.proofs.Math.Nat.{mul-le-mul_left, mul-le-mul_right}
-use Rattle.dh_code.proofs.ListsRun.{list_depth}
-use Rattle.dh_code.proofs.MadeParts.{all_append}
 use Rattle.dh_sem.specs.declared.lanes.Lanes.{Lanes}
 use Rattle.dh_sem.specs.declared.phases.Form.{Form}
 use Rattle.dh_sem.specs.declared.phases.Form.TheVariants.{Straight, Turns, Loop, Choice}
-use Rattle.dh_sem.specs.declared.phases.Frame.{Frame}
 use Rattle.dh_sem.specs.declared.phases.Turns as turns
-use Rattle.dh_sem.specs.Phased.{IsLinked, IsLinkedTurns, IsSoundFrame, arm_of, turns_in}
+use Rattle.dh_sem.specs.Phased.{IsLinked, IsLinkedTurns, taken_branch, turns_in}
 use Rattle.dh_code.specs.Scenes.{IsEarlier}
 
 pub turn_fits : (t : turns.Turns) (turn : ℕ) → t.low + t.count * t.factor ≤ 2 ^ 64 - 1 → turn + 1 ≤ t.count → t.low + (turn + 1) * t.factor ≤ 2 ^ 64 - 1
@@ -32,28 +28,8 @@ earlier_on m n (Some k) h e = later k h e
     later : (k : ℕ) → m < n → k < m → k < n
     later k a b = omega (arith, a, b)
 
-pub earlier_lower : (n : ℕ) (list o : Option ℕ) → list ≡ Some n → IsEarlier n o → list_depth o < list_depth list
-earlier_lower n list o is e = subst (λ (l : Option ℕ). list_depth o < list_depth l) (sym is) (by o e)
-  where
-    by : (o : Option ℕ) → IsEarlier n o → list_depth o < n + 1
-    by None e = omega arith
-    by (Some k) e = less k e
-      where
-        less : (k : ℕ) → k < n → k + 1 < n + 1
-        less k e = omega (arith, e)
-
 pub number_there : (count n : ℕ) (list : Option ℕ) → list ≡ Some n → IsEarlier count list → n < count
 number_there count n list is h = subst (λ (l : Option ℕ). IsEarlier count l) is h
-
-pub frames_more : (count : ℕ) (fs gs : List Frame) (f : Frame) → gs ≡ fs ++ f ∷ [] → AllByRecursion (IsSoundFrame count) fs → IsSoundFrame count f → AllByRecursion (IsSoundFrame count) gs
-frames_more count fs gs f is h e = subst (λ (l : List Frame). AllByRecursion (IsSoundFrame count) l) (sym is) (all_append (IsSoundFrame count) fs (f ∷ []) h (e, tt))
-
-pub frames_less : (count : ℕ) (fs gs : List Frame) (f : Frame) → fs ≡ gs ++ f ∷ [] → AllByRecursion (IsSoundFrame count) fs → AllByRecursion (IsSoundFrame count) gs × IsSoundFrame count f
-frames_less count fs gs f is h = by gs (subst (λ (l : List Frame). AllByRecursion (IsSoundFrame count) l) is h)
-  where
-    by : (gs : List Frame) → AllByRecursion (IsSoundFrame count) (gs ++ f ∷ []) → AllByRecursion (IsSoundFrame count) gs × IsSoundFrame count f
-    by [] h = (tt, h.0)
-    by (g ∷ gs) h = let k = by gs h.1 in ((h.0, k.0), k.1)
 
 pub linked_turns : (lanes : List Lanes) (number : ℕ) (form : Form) (t : turns.Turns) → turns_in form ≡ Some t → IsLinked lanes number form → IsLinkedTurns lanes number t
 linked_turns lanes number (Straight list) t e h = absurd cc
@@ -64,7 +40,7 @@ linked_turns lanes number (Turns u) t e h = subst (λ (w : turns.Turns). IsLinke
 linked_turns lanes number (Loop f list) t e h = absurd cc
 linked_turns lanes number (Choice f one two) t e h = absurd cc
 
-pub arm_earlier : (lanes : List Lanes) (number count : ℕ) (form : Form) (holds : Bool) → number < count → IsLinked lanes number form → IsEarlier count (arm_of form holds)
+pub arm_earlier : (lanes : List Lanes) (number count : ℕ) (form : Form) (holds : Bool) → number < count → IsLinked lanes number form → IsEarlier count (taken_branch form holds)
 arm_earlier lanes number count (Straight list) holds h l = tt
 arm_earlier lanes number count (Turns t) holds h l = tt
 arm_earlier lanes number count (Loop f list) holds h l = earlier_on number count list h l

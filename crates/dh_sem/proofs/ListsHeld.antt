@@ -24,7 +24,7 @@ use Rattle.dh_sem.specs.declared.holding.Made.{Made}
 use Rattle.dh_sem.specs.declared.phases.Form.{Form}
 use Rattle.dh_sem.specs.declared.phases.Phase.{Phase}
 use Rattle.dh_sem.specs.Held.{CanBeHeld, Fixes, FixesForm, HoldsAll, HoldsList, HoldsPhases, IsSoundMade, MoreMade}
-use Rattle.dh_sem.specs.Phased.{IsLinkedPhase, IsTested}
+use Rattle.dh_sem.specs.Phased.{IsLinkedPhase, TestIsHeld}
 use Rattle.dh_sem.proofs.PhasesKept.{earlier_later, leads_still, linked_still, made_none, made_then, phase_stays, phases_stay, tested_still, there_later}
 use Rattle.dh_sem.proofs.PhasesTurned.{turned}
 
@@ -76,9 +76,9 @@ module _ (names : Names) (paths : ℕ) (old now mid new : Made) (all : AllGather
           subst (λ (n : ℕ). IsLinkedPhase new.lanes.items n phase) (sym e.0) (subst (λ (f : Phase). IsLinkedPhase new.lanes.items (length mid.phases.items) f) e.1
           (record { form = linked_still mid new pushed (length mid.phases.items) (length mid.phases.items) form (equal (length mid.phases.items)) can.linked; next = earlier; paths = more paths there }))
 
-      test : (at : ℕ) (phase : Phase) → (slice_get mid.phases.items at ≡ Some phase) ⊎ ((at ≡ length mid.phases.items) × (held ≡ phase)) → IsTested new.code.operations phase.form
+      test : (at : ℕ) (phase : Phase) → (slice_get mid.phases.items at ≡ Some phase) ⊎ ((at ≡ length mid.phases.items) × (held ≡ phase)) → TestIsHeld new.code.operations phase.form
       test at phase (inl e) = tested_still mid new pushed phase.form (s.course.tests at phase e)
-      test at phase (inr e) = subst (λ (f : Phase). IsTested new.code.operations f.form) e.1 (tested_still mid new pushed form can.tested)
+      test at phase (inr e) = subst (λ (f : Phase). TestIsHeld new.code.operations f.form) e.1 (tested_still mid new pushed form can.tested)
 
   -- in front of those of the list
   in_front : (p : Placing) (factors : List ℕ) (q : source.Phase) (qs : source.Phases) → HoldsPhases names p factors paths old now next qs → Fixes names p factors paths now mid form q → HoldsPhases names p factors paths old new (Some (length mid.phases.items)) (source.phase q qs)

@@ -14,7 +14,7 @@ use Rattle.dh_sem.specs.declared.phases.Form.{Form}
 use Rattle.dh_sem.specs.declared.phases.Form.TheVariants.{Straight, Turns, Loop, Choice}
 use Rattle.dh_sem.specs.Held.{MoreMade, course_made}
 use Rattle.dh_sem.specs.Lanes.{LeadsInto, MoreLanes}
-use Rattle.dh_sem.specs.Phased.{ArePhases, IsLinked, IsPhase, IsTested}
+use Rattle.dh_sem.specs.Phased.{ArePhases, IsLinked, IsPhase, TestIsHeld}
 use Rattle.dh_code.specs.Scenes.{IsEarlier}
 
 pub lanes_none : (a : List Lanes) → MoreLanes a a
@@ -121,7 +121,7 @@ module _ (a b : Made) (h : MoreMade a b) where
   linked_still at to (Loop f list) le e = earlier_still at to list le e
   linked_still at to (Choice f one two) le e = (earlier_still at to one le e.0, earlier_still at to two le e.1)
 
-  pub tested_still : (form : Form) → IsTested a.code.operations form → IsTested b.code.operations form
+  pub tested_still : (form : Form) → TestIsHeld a.code.operations form → TestIsHeld b.code.operations form
   tested_still (Straight list) e = tt
   tested_still (Turns t) e = tt
   tested_still (Loop f list) e = held_stays a.code b.code f h.code e

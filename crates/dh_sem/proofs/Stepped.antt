@@ -96,15 +96,6 @@ nowhere : (table : List MemEntry) (p : Placing) (c : Course) (fs : List Frame) (
 nowhere table p c fs ended h = refl
 nowhere table p c fs (at paths b k) h = absurd h
 
--- there is a place where a run goes on
-pub stands_nowhere : (r : InterpreterState) (o : Outcome) (place : Option ℕ) → o ≡ r.outcome → place ≡ r.place → o ≡ Going → place ≡ None → StepsOn r (Ok o) r
-stands_nowhere r o place same placed going none = (
-  same,
-  λ p memories n h. absurd (at_block (core_of p) memories n (sym (same ∙ h.stands.outcome) ∙ going)
-      (nowhere r.table h.stands.placing r.course (reverse r.frames) (run_state (core_of p) memories n).place
-      (subst (λ (o : Option ℕ). IsPlace r.table h.stands.placing r.course o (reverse r.frames) (run_state (core_of p) memories n).place) (sym placed ∙ none) h.stands.place))),
-)
-
 outcome_placed : (table : List MemEntry) (p : Placing) (c : Course) (at' : Option ℕ) (fs : List Frame) (x : RunPlace) → IsPlace table p c at' fs x → place_outcome at' ≡ outcome_at x
 outcome_placed table p c None fs ended h = refl
 outcome_placed table p c None fs (at paths b k) h = absurd h

@@ -1,8 +1,7 @@
 -- A step: the block is done in a state that has spent nothing, and then the run goes on. A test leaves the variables as
 -- they are, so that what it came out as is still so where the run goes on.
-use Rattle.std.proofs.Common.{◌≡◌, ℕ, zero, suc, ◌+◌, ◌-◌, ◌≤◌, ◌==◌, Bool, false, if◌then◌else◌, List, [], ◌∷◌, length, Ok, Err, Some, refl, ap, sym, ◌∙◌, subst, arith}
+use Rattle.std.proofs.Common.{◌≡◌, ℕ, zero, suc, ◌+◌, ◌-◌, ◌≤◌, ◌==◌, Bool, false, if◌then◌else◌, List, [], ◌∷◌, Ok, Err, Some, refl, ap, sym, ◌∙◌, subst, arith}
 use Rattle.std.specs.Prelude.{Option, Result, slice_get}
-use Rattle.std.specs.List.{AllByRecursion}
 use Rattle.std.proofs.lemmas.Bool.Decides.{nat_tests}
 use Rattle.dh_tree.specs.declared.tables.MemEntry.{MemEntry}
 use Rattle.dh_tree.specs.Elements.{ports_at}
@@ -14,25 +13,24 @@ use Rattle.dh_code.specs.declared.evaluating.Scene.{Scene}
 use Rattle.dh_code.specs.declared.evaluating.Stop.{Stop}
 use Rattle.dh_code.specs.declared.evaluating.Stop.TheVariants as stop
 use Rattle.dh_code.specs.declared.running.State.{State}
-use Rattle.dh_code.specs.declared.running.Write.{Write}
 use Rattle.dh_code.specs.declared.spending.Bank.{Bank}
 use Rattle.dh_code.specs.Banks.{first_bank}
 use Rattle.dh_code.specs.Scenes.{begun_in}
 use Rattle.dh_code.specs.Slots.{Holds, Placing}
 use Rattle.dh_code.specs.Spent.{AreUsedBy, HaveSpent, has_row}
-use Rattle.dh_code.specs.States.{Ends, IsReadyState, IsSmallWrite, Keeps, KeepsBack}
+use Rattle.dh_code.specs.States.{Ends, Keeps}
 use Rattle.dh_code.proofs.Ranges.{items_same}
 use Rattle.dh_sem.specs.declared.phases.Frame.{Frame}
 use Rattle.dh_sem.specs.declared.stepping.Course as code
 use Rattle.dh_sem.specs.Frames.{IsBlockOf, IsTestFirst, StandsFirst}
-use Rattle.dh_sem.specs.Steps.{Advances, EndsSo, GoesOn, HoldsFirst, HoldsSo, IsRested, OnlyVariables, RunsBlock, RunsNext, block_effect, course_seen}
+use Rattle.dh_sem.specs.Steps.{Advances, EndsSo, GoesOn, FirstTestHolds, HoldsSo, IsRested, OnlyVariables, RunsBlock, RunsNext, block_effect, course_seen}
 use Rattle.dh_sem.proofs.Following.{settled_holds}
 
 tests_stay : (b : Begun) (t : CoreTerm) (paths : List Path) (e : Effect) → (at_each (tested_at b t) paths e).variables ≡ e.variables
 tests_stay b t [] e = refl
 tests_stay b t (p ∷ ps) e = tests_stay b t ps (tested_at b t p e)
 
-test_first : (b : Begun) (v : Variables) (test : CoreTerm) (paths : List Path) (k : RunTodo) (holds : Bool) → IsTestFirst test paths k → holds_at b v test (first_path paths) ≡ holds → HoldsFirst b v k holds
+test_first : (b : Begun) (v : Variables) (test : CoreTerm) (paths : List Path) (k : RunTodo) (holds : Bool) → IsTestFirst test paths k → holds_at b v test (first_path paths) ≡ holds → FirstTestHolds b v k holds
 test_first b v test paths over holds first h = absurd first
 test_first b v test paths (phases_then paths' qs k) holds first h = absurd first
 test_first b v test paths (turn_then paths' loop t body k) holds first h = absurd first
@@ -41,28 +39,17 @@ test_first b v test paths (again_then paths' test' body k) holds first h = absur
 test_first b v test paths (pick_then paths' test' chosen other k) holds first h = ap (λ t. holds_at b v t (first_path paths')) first.1 ∙ (ap (λ l. holds_at b v test (first_path l)) first.0 ∙ h)
 
 -- the test of a phase, where its block was done
-pub holds_first : (b : Begun) (q : CorePhase) (block : Block) (paths : List Path) (k : RunTodo) (e : Effect) (holds : Bool) → IsBlockOf q block → StandsFirst q paths k → HoldsSo b paths e.variables q holds → HoldsFirst b (block_run b paths block e).variables k holds
+pub holds_first : (b : Begun) (q : CorePhase) (block : Block) (paths : List Path) (k : RunTodo) (e : Effect) (holds : Bool) → IsBlockOf q block → StandsFirst q paths k → HoldsSo b paths e.variables q holds → FirstTestHolds b (block_run b paths block e).variables k holds
 holds_first b (straightly cs) block paths k e holds is first so = settled_holds b (block_run b paths block e).variables k holds first
 holds_first b (turning loop body) block paths k e holds is first so = absurd is
 holds_first b (looping test body) block paths k e holds is first so =
-    subst (λ (x : Block). HoldsFirst b (block_run b paths x e).variables k holds) (sym is)
-    (subst (λ (v : Variables). HoldsFirst b v k holds) (sym (tests_stay b test paths e)) (test_first b e.variables test paths k holds first so))
+    subst (λ (x : Block). FirstTestHolds b (block_run b paths x e).variables k holds) (sym is)
+    (subst (λ (v : Variables). FirstTestHolds b v k holds) (sym (tests_stay b test paths e)) (test_first b e.variables test paths k holds first so))
 holds_first b (choosing test chosen other) block paths k e holds is first so =
-    subst (λ (x : Block). HoldsFirst b (block_run b paths x e).variables k holds) (sym is)
-    (subst (λ (v : Variables). HoldsFirst b v k holds) (sym (tests_stay b test paths e)) (test_first b e.variables test paths k holds first so))
+    subst (λ (x : Block). FirstTestHolds b (block_run b paths x e).variables k holds) (sym is)
+    (subst (λ (v : Variables). FirstTestHolds b v k holds) (sym (tests_stay b test paths e)) (test_first b e.variables test paths k holds first so))
 
 -- States.
-
-pub ready_on : (s : Scene) (a b : State) → IsReadyState s a → OnlyVariables a b → IsReadyState s b
-ready_on s a b r o = record {
-  long = ap (λ l. length l) (items_same _ _ o.banks) ∙ r.long;
-  room = subst (λ (l : List ℕ). length s.code.now.operations ≤ length l) (sym (items_same _ _ o.given)) r.room;
-  used = subst (λ (l : List Bank). AreUsedBy s.step l) (sym (items_same _ _ o.banks)) r.used;
-  small = subst (λ (l : List Write). AllByRecursion (IsSmallWrite s.entries.now) l) (sym (items_same _ _ o.writes)) r.small;
-}
-
-pub back_on : (a b c : State) → KeepsBack a b → OnlyVariables b c → KeepsBack a c
-back_on a b c h o = record { long = o.long ∙ h.long; back = o.back ∙ h.back }
 
 module _ (s : Scene) (c : code.Course) (old mid : State) (number : ℕ) (fs : List Frame) where
   -- the block stops

@@ -29,18 +29,18 @@ IsFirst table p c (Pick number) (pick_then paths test chosen other k) behind =
 IsFirst table p c f k behind = ⊥
 
 -- what begins with no test that was just done
-abbrev pub IsSettled : RunTodo → Type 0
-IsSettled over = Unit {0}
-IsSettled (phases_then paths qs k) = Unit {0}
-IsSettled (turn_then paths loop t body k) = Unit {0}
-IsSettled (test_then paths test body k) = ⊥
-IsSettled (again_then paths test body k) = Unit {0}
-IsSettled (pick_then paths test chosen other k) = ⊥
+abbrev pub BeginsWithoutTest : RunTodo → Type 0
+BeginsWithoutTest over = Unit {0}
+BeginsWithoutTest (phases_then paths qs k) = Unit {0}
+BeginsWithoutTest (turn_then paths loop t body k) = Unit {0}
+BeginsWithoutTest (test_then paths test body k) = ⊥
+BeginsWithoutTest (again_then paths test body k) = Unit {0}
+BeginsWithoutTest (pick_then paths test chosen other k) = ⊥
 
 -- frames, the first one in front here, are what is still to come
 abbrev pub AreToCome : List MemEntry → Placing → Course → List Frame → RunTodo → Type 0
 AreToCome table p c [] k = k ≡ over
-AreToCome table p c (f ∷ fs) k = (behind : RunTodo) × (IsFirst table p c f k behind × (IsSettled behind × AreToCome table p c fs behind))
+AreToCome table p c (f ∷ fs) k = (behind : RunTodo) × (IsFirst table p c f k behind × (BeginsWithoutTest behind × AreToCome table p c fs behind))
 
 -- the block of a phase: its commands, or its test
 abbrev pub IsBlockOf : CorePhase → Block → Type 0
@@ -60,7 +60,7 @@ IsTestFirst test paths (pick_then paths' test' chosen other k) = (paths' ≡ pat
 
 -- what comes first behind the block of a phase
 abbrev pub StandsFirst : CorePhase → (paths : List Path) → RunTodo → Type 0
-StandsFirst (straightly cs) paths k = IsSettled k
+StandsFirst (straightly cs) paths k = BeginsWithoutTest k
 StandsFirst (turning loop body) paths k = ⊥
 StandsFirst (looping test body) paths k = IsTestFirst test paths k
 StandsFirst (choosing test chosen other) paths k = IsTestFirst test paths k

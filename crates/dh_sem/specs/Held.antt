@@ -28,7 +28,7 @@ use Rattle.dh_sem.specs.declared.phases.Form.{Form}
 use Rattle.dh_sem.specs.declared.phases.Phase.{Phase}
 use Rattle.dh_sem.specs.declared.phases.Turns.{Turns}
 use Rattle.dh_sem.specs.Lanes.{LeadsInto, MoreLanes}
-use Rattle.dh_sem.specs.Phased.{ArePhases, Course, IsLinked, IsPhase, IsSome, IsSoundCourse, IsTested}
+use Rattle.dh_sem.specs.Phased.{ArePhases, Course, IsLinked, IsPhase, IsSome, IsSoundCourse, TestIsHeld}
 use Rattle.dh_sem.specs.Runnable.{CanRun, CanRunAll}
 
 -- What is made of a program.
@@ -54,7 +54,7 @@ IsHeldAs table known p m factors form q = IsPhase table p (course_made m) factor
 -- and can be gone through
 pub record CanBeHeld (m : Made) (form : Form) : Type 0 where
   pub linked : IsLinked m.lanes.items (length m.phases.items) form
-  pub tested : IsTested m.code.operations form
+  pub tested : TestIsHeld m.code.operations form
 
 -- Phases of the definition: each `for` among them, however deep, has a turn, and its turn a phase.
 
@@ -101,7 +101,7 @@ HoldsList names paths old new gathered first =
     (p : Placing) (factors : List ℕ) (qs : source.Phases) → IsPlacingOf p names → AllMatch gathered qs → AreTurned qs → CanRunAll (table_in names) p factors (core_phases (known_by_names names) qs) → HoldsPhases names p factors paths old new first qs
 
 -- a test, which has its code
-pub record HasTest (names : Names) (old new : Made) (test : Expr) (f : Flat) : Type 0 where
+pub record HoldsTestCode (names : Names) (old new : Made) (test : Expr) (f : Flat) : Type 0 where
   pub flat : HoldsFlat names old.code new.code test f
   pub phases : new.phases.items ≡ old.phases.items
   pub lanes : new.lanes.items ≡ old.lanes.items

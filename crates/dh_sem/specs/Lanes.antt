@@ -40,8 +40,8 @@ row_copies before row zero = []
 row_copies before row (suc n) = row_copies before row n ++ (row ++ rank_kept (before + n) ∷ []) ∷ []
 
 -- so many copies of a path are added
-abbrev pub AddsCopies : (old new : List (Vec ℕ Global)) → (row : List ℕ) → (count : ℕ) → Type 0
-AddsCopies old new row count = contents_of new ≡ contents_of old ++ row_copies (length old) row count
+abbrev pub AddsPathCopies : (old new : List (Vec ℕ Global)) → (row : List ℕ) → (count : ℕ) → Type 0
+AddsPathCopies old new row count = contents_of new ≡ contents_of old ++ row_copies (length old) row count
 
 -- the ranks of the copies of paths
 abbrev pub copied_rows : (before factor : ℕ) → List (List ℕ) → List (List ℕ)

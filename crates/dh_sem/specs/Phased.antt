@@ -100,15 +100,15 @@ pub record AreLinked (phases : List Phase) (lanes : List Lanes) : Type 0 where
   pub each : (at : ℕ) (phase : Phase) → slice_get phases at ≡ Some phase → IsLinkedPhase lanes at phase
 
 -- the operations of the test stand in code
-abbrev pub IsTested : List Operation → Form → Type 0
-IsTested os (Straight list) = Unit {0}
-IsTested os (Turns t) = Unit {0}
-IsTested os (Loop f list) = IsHeld os f
-IsTested os (Choice f one two) = IsHeld os f
+abbrev pub TestIsHeld : List Operation → Form → Type 0
+TestIsHeld os (Straight list) = Unit {0}
+TestIsHeld os (Turns t) = Unit {0}
+TestIsHeld os (Loop f list) = IsHeld os f
+TestIsHeld os (Choice f one two) = IsHeld os f
 
 pub record IsSoundCourse (c : Course) : Type 0 where
   pub links : AreLinked c.phases c.lanes
-  pub tests : (at : ℕ) (phase : Phase) → slice_get c.phases at ≡ Some phase → IsTested c.code.operations phase.form
+  pub tests : (at : ℕ) (phase : Phase) → slice_get c.phases at ≡ Some phase → TestIsHeld c.code.operations phase.form
 
 -- a frame of one of so many phases, whose turns are counted
 abbrev pub IsSoundFrame : (count : ℕ) → Frame → Type 0
@@ -119,11 +119,11 @@ IsSoundFrame count (Again at) = at < count
 IsSoundFrame count (Pick at) = at < count
 
 -- the body of a `while`, or the arm of an `if` by its test
-abbrev pub arm_of : Form → Bool → Option ℕ
-arm_of (Straight list) holds = None
-arm_of (Turns t) holds = None
-arm_of (Loop f list) holds = list
-arm_of (Choice f one two) holds = if holds then one else two
+abbrev pub taken_branch : Form → Bool → Option ℕ
+taken_branch (Straight list) holds = None
+taken_branch (Turns t) holds = None
+taken_branch (Loop f list) holds = list
+taken_branch (Choice f one two) holds = if holds then one else two
 
 -- the turns of a phase that is a `for`
 abbrev pub turns_in : Form → Option turns.Turns

@@ -33,8 +33,8 @@ pub record IsNothingMade (made : Made) : Type 0 where
   pub sound : (table : List MemEntry) → IsSoundMade table made
 
 -- what was made stands as the program's phases do, of which this is the first, and so many slots are its variables'
-abbrev pub HoldsFirst : Program → Made → (first : Option ℕ) → (slots : ℕ) → Type 0
-HoldsFirst p made first slots = HoldsProgram p made first × (slots ≡ slots_of p)
+abbrev pub HoldsProgramAndSlots : Program → Made → (first : Option ℕ) → (slots : ℕ) → Type 0
+HoldsProgramAndSlots p made first slots = HoldsProgram p made first × (slots ≡ slots_of p)
 
 -- so many slots that hold 0, room for what so many operations give, and so many banks of which nothing is spent
 pub record IsUnused (slots operations banks : ℕ) (state : State) : Type 0 where
@@ -44,7 +44,7 @@ pub record IsUnused (slots operations banks : ℕ) (state : State) : Type 0 wher
   pub unspent : AreUsedBy 0 state.banks.items
 
 -- from the list of phases that begins with `first` to the phase of its first block, if there is one
-pub record StandsFirst (course : code.Course) (first place : Option ℕ) (old new : State) (frames : List Frame) : Type 0 where
+pub record ReachesFirstBlock (course : code.Course) (first place : Option ℕ) (old new : State) (frames : List Frame) : Type 0 where
   pub only : OnlyVariables old new
   pub sound : AllByRecursion (IsSoundFrame (length course.phases.now)) frames
   pub earlier : IsEarlier (length course.phases.now) place
@@ -56,7 +56,7 @@ run_begun table b outcome memories =
     record { table = table; course = course_made b.made; outcome = outcome; steps = 0; memories = memories; slots = b.state.variables.items; place = b.place; frames = b.frames.items }
 
 -- from all memories that fit the run can go on, and stands as the program does before its first step
-pub record IsBegun (p : Program) (b : Begun) : Type 0 where
+pub record IsBegunRun (p : Program) (b : Begun) : Type 0 where
   pub steady : (outcome : Outcome) (memories : List (List ℕ)) → Fits (table_of p) memories
       → IsSteady (run_begun (table_of p) b outcome memories) b.state.given.items b.state.banks.items b.firsts.items
   pub stands : (outcome : Outcome) (memories : List (List ℕ)) → outcome ≡ place_outcome b.place → StandsAt p memories 0 (run_begun (table_of p) b outcome memories)

@@ -26,7 +26,7 @@ use Rattle.dh_sem.specs.declared.phases.Frame.{Frame}
 use Rattle.dh_sem.specs.declared.phases.Frame.TheVariants.{List as Rest, Turn, Test, Again, Pick}
 use Rattle.dh_sem.specs.declared.phases.Turns as turns
 use Rattle.dh_sem.specs.declared.stepping.Course as code
-use Rattle.dh_sem.specs.Frames.{AreToCome, IsBlockOf, IsFirst, IsPlace, IsSettled, StandsFirst, StandsFor}
+use Rattle.dh_sem.specs.Frames.{AreToCome, IsBlockOf, IsFirst, IsPlace, BeginsWithoutTest, StandsFirst, StandsFor}
 use Rattle.dh_sem.specs.Lanes.{AreLanes}
 use Rattle.dh_sem.specs.Phased.{AreTurns, ArePhases, Course}
 
@@ -79,7 +79,7 @@ DescendsTo table p c (Some number) new new_frames n = Arrives table p c n new (S
 abbrev pub Descends : code.Course → (list at : Option ℕ) → (old new : State) → (old_frames new_frames : List Frame) → Type 0
 Descends c list at old new old_frames new_frames =
     (table : List MemEntry) (p : Placing) (made : Code) (factors : List ℕ) (qs : CorePhases) (k : RunTodo) (behind : RunNext) (v : Variables)
-    → ArePhases table p (course_of made c) factors list qs → AreToCome table p (course_of made c) (reverse old_frames) k → IsSettled k → Holds p old.variables.items v
+    → ArePhases table p (course_of made c) factors list qs → AreToCome table p (course_of made c) (reverse old_frames) k → BeginsWithoutTest k → Holds p old.variables.items v
     → DescendsTo table p (course_of made c) at new new_frames (enter (paths_in factors) qs k behind v)
 
 abbrev pub NowhereIfNone : (list at : Option ℕ) → (old new : State) → (old_frames new_frames : List Frame) → Type 0
@@ -87,13 +87,13 @@ NowhereIfNone list None old new old_frames new_frames = IsNowhere list old new o
 NowhereIfNone list (Some number) old new old_frames new_frames = Unit {0}
 
 -- whether the test that stands first among what is to come holds
-abbrev pub HoldsFirst : Begun → Variables → RunTodo → Bool → Type 0
-HoldsFirst b v over holds = Unit {0}
-HoldsFirst b v (phases_then paths qs k) holds = Unit {0}
-HoldsFirst b v (turn_then paths loop turn body k) holds = Unit {0}
-HoldsFirst b v (test_then paths test body k) holds = holds_at b v test (first_path paths) ≡ holds
-HoldsFirst b v (again_then paths test body k) holds = Unit {0}
-HoldsFirst b v (pick_then paths test chosen other k) holds = holds_at b v test (first_path paths) ≡ holds
+abbrev pub FirstTestHolds : Begun → Variables → RunTodo → Bool → Type 0
+FirstTestHolds b v over holds = Unit {0}
+FirstTestHolds b v (phases_then paths qs k) holds = Unit {0}
+FirstTestHolds b v (turn_then paths loop turn body k) holds = Unit {0}
+FirstTestHolds b v (test_then paths test body k) holds = holds_at b v test (first_path paths) ≡ holds
+FirstTestHolds b v (again_then paths test body k) holds = Unit {0}
+FirstTestHolds b v (pick_then paths test chosen other k) holds = holds_at b v test (first_path paths) ≡ holds
 
 -- each frame that is left behind has its weight
 abbrev pub frame_weight : Frame → ℕ
@@ -111,7 +111,7 @@ weight_of (f ∷ fs) = frame_weight f + weight_of fs
 pub record GoAlike (table : List MemEntry) (p : Placing) (c : Course) (b : Begun) (v : Variables) (n : RunNext) (frames : List Frame) : Type 0 where
   pub todo : RunTodo
   pub are : AreToCome table p c (reverse frames) todo
-  pub settled : IsSettled todo
+  pub settled : BeginsWithoutTest todo
   pub same : next_of b todo v ≡ n
 
 abbrev pub FollowsTo : List MemEntry → Placing → Course → Begun → Variables → RunNext → (at : Option ℕ) → (new : State) → (new_frames : List Frame) → Type 0
@@ -124,17 +124,17 @@ Lightens None frame old new old_frames new_frames = (new ≡ old) × (weight_of 
 Lightens (Some number) frame old new old_frames new_frames = Unit {0}
 
 -- from a frame to the next block behind it
-abbrev pub Follows : code.Course → (frame : Frame) → (holds : Bool) → (at : Option ℕ) → (old new : State) → (old_frames new_frames : List Frame) → Type 0
-Follows c frame holds at old new old_frames new_frames =
+abbrev pub FollowsFrame : code.Course → (frame : Frame) → (holds : Bool) → (at : Option ℕ) → (old new : State) → (old_frames new_frames : List Frame) → Type 0
+FollowsFrame c frame holds at old new old_frames new_frames =
     (table : List MemEntry) (p : Placing) (made : Code) (b : Begun) (v : Variables) (k behind : RunTodo)
-    → IsFirst table p (course_of made c) frame k behind → IsSettled behind → AreToCome table p (course_of made c) (reverse old_frames) behind → Holds p old.variables.items v → HoldsFirst b v k holds
+    → IsFirst table p (course_of made c) frame k behind → BeginsWithoutTest behind → AreToCome table p (course_of made c) (reverse old_frames) behind → Holds p old.variables.items v → FirstTestHolds b v k holds
     → FollowsTo table p (course_of made c) b v (next_of b k v) at new new_frames
 
 -- from frames to the next block behind them; `holds` is whether the test that was done holds
 abbrev pub GoesOn : code.Course → (at : Option ℕ) → (old new : State) → (old_frames new_frames : List Frame) → (holds : Bool) → Type 0
 GoesOn c at old new old_frames new_frames holds =
     (table : List MemEntry) (p : Placing) (made : Code) (b : Begun) (v : Variables) (k : RunTodo)
-    → AreToCome table p (course_of made c) (reverse old_frames) k → Holds p old.variables.items v → HoldsFirst b v k holds
+    → AreToCome table p (course_of made c) (reverse old_frames) k → Holds p old.variables.items v → FirstTestHolds b v k holds
     → Arrives table p (course_of made c) (next_of b k v) new at new_frames
 
 -- Blocks.
@@ -147,8 +147,8 @@ HoldsSo b paths v (looping test body) holds = holds_at b v test (first_path path
 HoldsSo b paths v (choosing test chosen other) holds = holds_at b v test (first_path paths) ≡ holds
 
 -- a test is evaluated at all paths inside loops; the answer is whether it holds at the first one
-abbrev pub TestsAll : Scene → State → Result Bool Stop → State → Lanes → Flat → Type 0
-TestsAll s old result new lanes f =
+abbrev pub TestsAllPaths : Scene → State → Result Bool Stop → State → Lanes → Flat → Type 0
+TestsAllPaths s old result new lanes f =
     (p : Placing) (factors : List ℕ) (t : CoreTerm) → AreLanes factors lanes → IsFlat p.held s.entries.now s.code.now t f → CanEvaluate s.entries.now p factors t
     → Runs p s old result new (at_each (tested_at (begun_in s) t) (paths_in factors))
     × ((e : Effect) → Keeps p s.entries.now e s.step old → IfOk result (λ holds. holds_at (begun_in s) e.variables t (first_path (paths_in factors)) ≡ holds))

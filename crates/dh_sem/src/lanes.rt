@@ -3,7 +3,7 @@
 ghost use Rattle.std.specs.Prelude.{◌≡◌, ◌<◌, ◌∷◌, ◌++◌, [], IfOk, length};
 ghost use Rattle.std.specs.List.{range_with_len};
 ghost use Rattle.dh_code.specs.Rows.{contents_of};
-ghost use Rattle.dh_sem.specs.Lanes.{AddsCopies, AreFirstLanes, LanesInside, copied_rows, rank_kept};
+ghost use Rattle.dh_sem.specs.Lanes.{AddsPathCopies, AreFirstLanes, LanesInside, copied_rows, rank_kept};
 
 use dh_base::NoMemory;
 use std::alloc::Global;
@@ -68,7 +68,7 @@ fn add_copies(
     row: &[u32],
     factor: u64,
 ) -> Result<(), NoMemory>
-    ensures { IfOk result (λ _. AddsCopies rows.old.items rows.new.items row.now factor) }
+    ensures { IfOk result (λ _. AddsPathCopies rows.old.items rows.new.items row.now factor) }
 {
     for _ in 0..factor {
         let rank = rank_behind(rows.len());

@@ -15,7 +15,7 @@ ghost use Rattle.dh_sem.specs.Lanes.{AreFirstLanes};
 ghost use Rattle.dh_sem.specs.Phased.{AreLinked};
 ghost use Rattle.dh_code.specs.Scenes.{IsEarlier};
 ghost use Rattle.dh_sem.specs.Runnable.{IsRunnable};
-ghost use Rattle.dh_sem.specs.Starts.{ArePlacesOf, HoldsFirst, IsBegun, IsNothingMade, IsUnused, StandsFirst};
+ghost use Rattle.dh_sem.specs.Starts.{ArePlacesOf, HoldsProgramAndSlots, IsBegunRun, IsNothingMade, IsUnused, ReachesFirstBlock};
 
 use crate::holding::{Made, hold_all};
 use crate::lanes::first_lanes;
@@ -162,7 +162,7 @@ fn hold_first(
     requires runnable { IsRunnable (program_seen program.now) }
     requires none { IsNothingMade made.old }
     ensures { IfOk result
-        (λ held. HoldsFirst (program_seen program.now) made.new held.0 held.1) }
+        (λ held. HoldsProgramAndSlots (program_seen program.now) made.new held.0 held.1) }
 {
     let places = places_of(alloc, program)?;
     match hold_placed(alloc, program, places.held.as_slice(), made) {
@@ -202,7 +202,7 @@ fn go_to_first(
     requires course { AreLinked course.now.phases.now course.now.lanes.now }
     requires first { IsEarlier (length course.now.phases.now) first }
     requires none { frames.old.items ≡ [] }
-    ensures { IfOk result (λ place. StandsFirst course.now first place state.old state.new
+    ensures { IfOk result (λ place. ReachesFirstBlock course.now first place state.old state.new
         frames.new.items) }
 {
     frames.push(Frame::List { list: first })?;
@@ -221,7 +221,7 @@ fn stand_first(
     requires table { IsProgramTable (table_of (program_seen program.now)) }
     requires holds { HoldsProgram (program_seen program.now) made first }
     requires slots { slots ≡ slots_of (program_seen program.now) }
-    ensures { IfOk result (IsBegun (program_seen program.now)) }
+    ensures { IfOk result (IsBegunRun (program_seen program.now)) }
 {
     let entries = program.memories().as_slice();
     let firsts = first_banks(alloc, entries)?;
@@ -251,7 +251,7 @@ fn stand_first(
 pub fn begin(alloc: Global, program: &Typed) -> Result<Begun, NoMemory>
     requires table { IsProgramTable (table_of (program_seen program.now)) }
     requires runnable { IsRunnable (program_seen program.now) }
-    ensures { IfOk result (IsBegun (program_seen program.now)) }
+    ensures { IfOk result (IsBegunRun (program_seen program.now)) }
 {
     let mut made = nothing_made(alloc)?;
     let (first, slots) = hold_first(alloc, program, &mut made)?;

@@ -5,8 +5,8 @@ ghost use Rattle.std.specs.List.{AllByRecursion};
 ghost use Rattle.dh_code.specs.Scenes.{IsHeld, IsScene, IsEarlier};
 ghost use Rattle.dh_code.specs.States.{IsReadyState, KeepsBack, memories_written};
 ghost use Rattle.dh_sem.specs.declared.phases.Frame.TheVariants.{Turn};
-ghost use Rattle.dh_sem.specs.Phased.{AreLinked, IsSoundCourse, IsSoundFrame, arm_of, turns_in};
-ghost use Rattle.dh_sem.specs.Steps.{Advances, BackIfStopped, BeginsTurn, Descends, Follows, GoesOn, IsRested, Lightens, NowhereIfNone, OnlyVariables, RunsBlock, RunsNext, SetsCopy, TestsAll, course_seen, which};
+ghost use Rattle.dh_sem.specs.Phased.{AreLinked, IsSoundCourse, IsSoundFrame, taken_branch, turns_in};
+ghost use Rattle.dh_sem.specs.Steps.{Advances, BackIfStopped, BeginsTurn, Descends, FollowsFrame, GoesOn, IsRested, Lightens, NowhereIfNone, OnlyVariables, RunsBlock, RunsNext, SetsCopy, TestsAllPaths, course_seen, which};
 
 use crate::lanes::Lanes;
 use crate::phases::{Form, Frame, Phase, Turns};
@@ -34,7 +34,7 @@ fn test(scene: &Scene<'_>, state: &mut State, lanes: &Lanes, test: &Flat) -> Res
     requires held { IsHeld scene.now.code.now.operations test.now }
     ensures ready { IsReadyState scene.now state.new }
     ensures back { KeepsBack state.old state.new }
-    ensures tests { TestsAll scene.now state.old result state.new lanes.now test.now }
+    ensures tests { TestsAllPaths scene.now state.old result state.new lanes.now test.now }
 {
     let mut first = false;
     let rows = lanes.rows.as_slice();
@@ -222,7 +222,7 @@ fn go_into(
 
 /// The body of a phase that is a `while`, or the arm of an `if` by its test.
 fn arm(phase: &Phase, holds: bool) -> Option<usize>
-    ensures { result ≡ arm_of phase.now.form holds }
+    ensures { result ≡ taken_branch phase.now.form holds }
 {
     match &phase.form {
         Form::Loop { body, .. } => *body,
@@ -263,7 +263,7 @@ fn next_turn(
     ensures place { IfOk result (λ at. IsEarlier (length course.now.phases.now) at) }
     ensures light { IfOk result (λ next. Lightens next (Turn at turn) state.old state.new
         frames.old.items frames.new.items) }
-    ensures follows { (holds : Bool) → IfOk result (λ next. Follows course.now (Turn at turn) holds
+    ensures follows { (holds : Bool) → IfOk result (λ next. FollowsFrame course.now (Turn at turn) holds
         next state.old state.new frames.old.items frames.new.items) }
 {
     let phase = phase_at(course.phases, at);
@@ -297,7 +297,7 @@ fn follow(
     ensures place { IfOk result (λ at. IsEarlier (length course.now.phases.now) at) }
     ensures light { IfOk result (λ next. Lightens next frame state.old state.new
         frames.old.items frames.new.items) }
-    ensures follows { IfOk result (λ next. Follows course.now frame holds
+    ensures follows { IfOk result (λ next. FollowsFrame course.now frame holds
         next state.old state.new frames.old.items frames.new.items) }
 {
     match frame {

@@ -15,7 +15,7 @@ use Rattle.dh_tree.specs.PlainTrees.{Program}
 use Rattle.dh_tree.specs.Tables.{elements_in}
 use Rattle.dh_tree.specs.declared.tables.Dim.{Dim}
 use Rattle.std.proofs.Math.Seq.{drop-cons}
-use Rattle.dh_shape.specs.Above.{first_in, excess_of, TellsExcess}
+use Rattle.dh_shape.specs.Above.{first_excess_in, excess_of, TellsExcess}
 use Rattle.dh_shape.specs.declared.limits.Measure.TheVariants as measure
 
 -- both reach the bound
@@ -99,15 +99,15 @@ pub excess_cut : (l : Limit) (n : ℕ) → excess_at l (min n most_counted) ≡ 
 excess_cut l n = ap (λ (b : Bool). if b then Some (record { limit = l; count = min (min n most_counted) most_counted }) else None) (test_cut (greatest_of l) n most_counted (greatest_small l)) ∙ ap (λ (c : ℕ). if nat_lt (greatest_of l) n then Some (record { limit = l; count = c }) else None) (twice_cut n most_counted)
 
 -- what is told of memories, told of their entries
-pub dimensions_above : (ms : List Memory) → first_above limit.Dimensions (λ m. length m.shape.dims) ms ≡ first_in measure.Dimensions (map entry_of ms)
+pub dimensions_above : (ms : List Memory) → first_above limit.Dimensions (λ m. length m.shape.dims) ms ≡ first_excess_in measure.Dimensions (map entry_of ms)
 dimensions_above [] = refl
 dimensions_above (m ∷ ms) = ap (λ x. or_else (excess_at limit.Dimensions (length m.shape.dims)) x) (dimensions_above ms)
 
-pub banks_above : (ms : List Memory) → first_above limit.Banks (λ m. banks_of m.shape.dims) ms ≡ first_in measure.Banks (map entry_of ms)
+pub banks_above : (ms : List Memory) → first_above limit.Banks (λ m. banks_of m.shape.dims) ms ≡ first_excess_in measure.Banks (map entry_of ms)
 banks_above [] = refl
 banks_above (m ∷ ms) = ap (λ x. or_else (excess_at limit.Banks (banks_of m.shape.dims)) x) (banks_above ms)
 
-pub ports_above : (ms : List Memory) → first_above limit.Ports (λ m. m.shape.ports) ms ≡ first_in measure.Ports (map entry_of ms)
+pub ports_above : (ms : List Memory) → first_above limit.Ports (λ m. m.shape.ports) ms ≡ first_excess_in measure.Ports (map entry_of ms)
 ports_above [] = refl
 ports_above (m ∷ ms) = ap (λ x. or_else (excess_at limit.Ports m.shape.ports) x) (ports_above ms)
 
@@ -118,8 +118,8 @@ behind_banks p ports = or_else ports (or_else (copies_excess 1 p.body) (excess_a
 pub told_of_table : (p : Program) → first_excess p ≡ excess_of (copies_excess 1 p.body) (table_of p)
 told_of_table p =
     ap (λ x. or_else x (or_else (first_above limit.Banks (λ m. banks_of m.shape.dims) (memories_of p)) (behind_banks p (first_above limit.Ports (λ m. m.shape.ports) (memories_of p))))) (dimensions_above (memories_of p))
-    ∙ (ap (λ x. or_else (first_in measure.Dimensions (table_of p)) (or_else x (behind_banks p (first_above limit.Ports (λ m. m.shape.ports) (memories_of p))))) (banks_above (memories_of p))
-    ∙ ap (λ x. or_else (first_in measure.Dimensions (table_of p)) (or_else (first_in measure.Banks (table_of p)) (behind_banks p x))) (ports_above (memories_of p)))
+    ∙ (ap (λ x. or_else (first_excess_in measure.Dimensions (table_of p)) (or_else x (behind_banks p (first_above limit.Ports (λ m. m.shape.ports) (memories_of p))))) (banks_above (memories_of p))
+    ∙ ap (λ x. or_else (first_excess_in measure.Dimensions (table_of p)) (or_else (first_excess_in measure.Banks (table_of p)) (behind_banks p x))) (ports_above (memories_of p)))
 
 -- what is told of the table and of the copies of the body
 told_of_both : (p : Program) (copies : Option Excess) (es : List MemEntry) (o : Option Excess) → copies ≡ copies_excess 1 p.body → es ≡ table_of p → excess_of copies es ≡ o → first_excess p ≡ o

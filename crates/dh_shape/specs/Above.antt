@@ -27,23 +27,23 @@ excess_in measure.Banks s = excess_at limit.Banks (banks_of s.dims)
 excess_in measure.Ports s = excess_at limit.Ports s.ports
 
 -- the first entry of which that is above its limit
-abbrev pub first_in : Measure → List MemEntry → Option Excess
-first_in m [] = None
-first_in m (e ∷ es) = or_else (excess_in m e.shape) (first_in m es)
+abbrev pub first_excess_in : Measure → List MemEntry → Option Excess
+first_excess_in m [] = None
+first_excess_in m (e ∷ es) = or_else (excess_in m e.shape) (first_excess_in m es)
 
 -- the first excess of a table: of dimensions, of banks over all dimensions, of ports, that of copies, where
 -- there is one, then of the elements of all entries
 abbrev pub excess_of : (copies : Option Excess) → List MemEntry → Option Excess
 excess_of copies es =
-    or_else (first_in measure.Dimensions es)
-    (or_else (first_in measure.Banks es)
-    (or_else (first_in measure.Ports es)
+    or_else (first_excess_in measure.Dimensions es)
+    (or_else (first_excess_in measure.Banks es)
+    (or_else (first_excess_in measure.Ports es)
     (or_else copies (excess_at limit.Elements (elements_in es)))))
 
 -- the first excess of copies in a command, in a block that may lack, and in the parts of a block, round each of
 -- which there are so many
-abbrev pub copies_in : (round : ℕ) → Command → Option Excess
-copies_in round c = copies_excess round (action_seen c)
+abbrev pub copies_in_command : (round : ℕ) → Command → Option Excess
+copies_in_command round c = copies_excess round (action_seen c)
 
 abbrev pub copies_in_other : (round : ℕ) → Option (Box Command) → Option Excess
 copies_in_other round block = other_copies_excess round (maybe_block_seen block)

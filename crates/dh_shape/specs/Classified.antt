@@ -32,16 +32,16 @@ abbrev pub loops_in : Tree → List Counter
 loops_in tree = counters_of (program_seen tree)
 
 -- the number of a literal
-abbrev pub number_in : Offset → ℤ
-number_in l = signed_number l.negative l.value
+abbrev pub literal_number : Offset → ℤ
+literal_number l = signed_number l.negative l.value
 
 -- the answer is what an index of this program is
 abbrev pub IsKindOf : Tree → Expr → IndexKind → Type 0
 IsKindOf tree e answer = Classifies (loops_in tree) (index_kind (loops_in tree) e.kind (form_seen e.form)) answer
 
 -- it is what a name with a literal added is
-abbrev pub IsCounted : Tree → Option Kind → (entity : Option ℕ) → Offset → IndexKind → Type 0
-IsCounted tree kind entity l answer = Classifies (loops_in tree) (counted kind (counter_in (loops_in tree) entity) (number_in l)) answer
+abbrev pub IsCountedIndex : Tree → Option Kind → (entity : Option ℕ) → Offset → IndexKind → Type 0
+IsCountedIndex tree kind entity l answer = Classifies (loops_in tree) (counted kind (counter_in (loops_in tree) entity) (literal_number l)) answer
 
 -- it is what an operation of these two is
 abbrev pub IsSum : Tree → Option Kind → Op → (left right : Expr) → IndexKind → Type 0
@@ -58,14 +58,14 @@ literal_of (applied o left right) = None
 literal_of (converted inner to) = None
 
 -- the entity of the name that a form is
-abbrev pub name_of : TermForm → Option (Option ℕ)
-name_of (number negative n) = None
-name_of (truth_value value) = None
-name_of (named r) = Some r.entity
-name_of (accessed r indices) = None
-name_of (in_bank r bank bank_place row) = None
-name_of (applied o left right) = None
-name_of (converted inner to) = None
+abbrev pub named_entity_of : TermForm → Option (Option ℕ)
+named_entity_of (number negative n) = None
+named_entity_of (truth_value value) = None
+named_entity_of (named r) = Some r.entity
+named_entity_of (accessed r indices) = None
+named_entity_of (in_bank r bank bank_place row) = None
+named_entity_of (applied o left right) = None
+named_entity_of (converted inner to) = None
 
 -- a name with a literal added
 abbrev pub moved_kind : List Counter → Option Kind → Option (Option ℕ) → Option Offset → indices.IndexKind

@@ -1,7 +1,7 @@
 //! How many copies there are of one place.
 
 ghost use Rattle.std.specs.Prelude.{◌≡◌};
-ghost use Rattle.dh_shape.specs.Above.{copies_in, copies_in_other, copies_in_parts};
+ghost use Rattle.dh_shape.specs.Above.{copies_in_command, copies_in_other, copies_in_parts};
 
 use crate::counting::{excess, first_of, product};
 use dh_base::{Excess, Limit};
@@ -11,7 +11,7 @@ use dh_tree::{Command, CommandForm};
 #[cycle(copies)]
 #[tactic(auto, using(dh_tree::proofs::SeenActions::actions_are))]
 pub(crate) fn copies_above(round: u64, command: &Command) -> Option<Excess>
-    ensures { result ≡ copies_in round command.now }
+    ensures { result ≡ copies_in_command round command.now }
 {
     match &command.form {
         CommandForm::Block { body } => copies_above_in_parts(round, body.as_slice()),

@@ -5,7 +5,7 @@ ghost use Rattle.dh_value.specs.declared.operators.Op.TheVariants as op;
 ghost use Rattle.dh_tree.specs.Indices as definitions;
 ghost use Rattle.dh_tree.specs.Seen.{form_seen};
 ghost use Rattle.dh_shape.specs.Classified as answers;
-ghost use Rattle.dh_shape.specs.Classified.{IsCounted, IsKindOf, IsMoved, IsSum, literal_of, name_of, number_in};
+ghost use Rattle.dh_shape.specs.Classified.{IsCountedIndex, IsKindOf, IsMoved, IsSum, literal_of, named_entity_of, literal_number};
 
 use dh_tree::{Counter, Expr, ExprForm, Kind, Typed};
 use dh_value::{Op, fits};
@@ -36,7 +36,7 @@ struct Offset {
 
 /// A number of 64 bits and another with a sign, added.
 fn sum_of(number: u64, literal: Offset) -> i128
-    ensures { result ≡ pos number +ℤ number_in literal }
+    ensures { result ≡ pos number +ℤ literal_number literal }
 {
     let number = i128::from(number);
     let value = i128::from(literal.value);
@@ -49,7 +49,7 @@ fn sum_of(number: u64, literal: Offset) -> i128
 
 /// The number of a literal.
 fn number_of(literal: Offset) -> i128
-    ensures { result ≡ number_in literal }
+    ensures { result ≡ literal_number literal }
 {
     let value = i128::from(literal.value);
     if literal.negative { -value } else { value }
@@ -67,7 +67,7 @@ fn fits_kind(kind: Option<Kind>, number: i128) -> bool
 
 /// Whether every value of an iterator with a literal added is at least 0 and a value of the kind.
 fn all_fit(kind: Option<Kind>, counter: Counter, literal: Offset) -> bool
-    ensures { result ≡ definitions.all_fit kind counter (number_in literal) }
+    ensures { result ≡ definitions.all_fit kind counter (literal_number literal) }
 {
     counter.high <= counter.low
         || (fits_kind(kind, sum_of(counter.low, literal))
@@ -76,7 +76,7 @@ fn all_fit(kind: Option<Kind>, counter: Counter, literal: Offset) -> bool
 
 /// What a name with a literal added is.
 fn counted(typed: &Typed, kind: Option<Kind>, entity: Option<u32>, literal: Offset) -> IndexKind
-    ensures { IsCounted typed.now kind entity literal result }
+    ensures { IsCountedIndex typed.now kind entity literal result }
 {
     let Some(entity) = entity else {
         return IndexKind::Dynamic;
@@ -112,7 +112,7 @@ fn literal(term: &Expr) -> Option<Offset>
 /// The entity of the name that an expression is, if it is one.
 #[tactic(auto, using(dh_tree::proofs::SeenTerms::terms_are))]
 fn name(term: &Expr) -> Option<Option<u32>>
-    ensures { result ≡ name_of (form_seen term.now.form) }
+    ensures { result ≡ named_entity_of (form_seen term.now.form) }
 {
     match &term.form {
         ExprForm::Variable { of } => Some(of.entity),

@@ -5,7 +5,7 @@ ghost use Rattle.dh_tree.specs.Elements.{banks_of};
 ghost use Rattle.dh_tree.specs.Excesses.{most_counted, copies_excess, first_excess};
 ghost use Rattle.dh_tree.specs.Seen.{program_seen};
 ghost use Rattle.dh_tree.specs.Tables.{elements_of, elements_in};
-ghost use Rattle.dh_shape.specs.Above.{excess_in, first_in, excess_of, TellsExcess};
+ghost use Rattle.dh_shape.specs.Above.{excess_in, first_excess_in, excess_of, TellsExcess};
 
 use crate::copies::copies_above;
 use crate::counting::{excess, product, total};
@@ -80,7 +80,7 @@ fn measured(measure: Measure, shape: &Shape) -> Option<Excess>
 
 /// The first memory of which that is above its limit.
 fn first_above(measure: Measure, entries: &[MemEntry]) -> Option<Excess>
-    ensures { result ≡ first_in measure entries.now }
+    ensures { result ≡ first_excess_in measure entries.now }
 {
     for entry in entries {
         let excess = measured(measure, &entry.shape);

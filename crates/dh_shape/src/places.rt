@@ -5,7 +5,7 @@ ghost use Rattle.std.specs.List.{AllByRecursion};
 ghost use Rattle.dh_tree.specs.Elements.{banks_of};
 ghost use Rattle.dh_tree.specs.Shapes.{IsDim, most_banks};
 ghost use Rattle.dh_tree.specs.Tables.{elements_of, most_elements};
-ghost use Rattle.dh_shape.specs.Placed.{place_of};
+ghost use Rattle.dh_shape.specs.Placed.{place_of_element};
 
 use dh_tree::Shape;
 
@@ -17,7 +17,7 @@ pub fn bank_row(shape: &Shape, index: &[u64]) -> Option<(u32, u32)>
     requires banks { banks_of shape.now.dims ≤ most_banks }
     requires elements { elements_of shape.now.dims ≤ most_elements }
     requires indices { length index.now ≡ length shape.now.dims }
-    ensures { result ≡ place_of shape.now index.now }
+    ensures { result ≡ place_of_element shape.now index.now }
 {
     let mut bank = 0;
     let mut row = 0;

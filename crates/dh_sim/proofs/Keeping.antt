@@ -23,7 +23,7 @@ use Rattle.dh_net.specs.declared.ports.Port.{Port}
 use Rattle.dh_sim.specs.Layouts.{ArraysFit}
 use Rattle.dh_net.proofs.Valuations.{cell_of, wires_fit, one_valuation}
 use Rattle.dh_sim.specs.declared.arrays.Shown.{Shown}
-use Rattle.dh_sim.specs.Points.{Point, IsSoundPoint, state_of}
+use Rattle.dh_sim.specs.Points.{Point, IsSoundPoint, state_of_arrays}
 use Rattle.dh_sim.specs.Shows.{ShowsAs}
 
 -- a wire that has a width is below 2 to that power
@@ -280,10 +280,10 @@ starts_sound net valid m fits ws settled =
 -- the arrays that a simulator is made of
 pub made_sound : (net : Net) → IsValid net → (m : List (List ℕ)) → Fits net.table m → (rs hs ws : List ℕ) (bs : List (Vec ℕ Global))
     → rs ≡ map (λ r. r.initial) net.registers → hs ≡ replicate (length net.drivers) 0 → map (λ b. b.items) bs ≡ m → IsValuation net.table net.cells rs hs ws
-    → IsSoundPoint net (state_of rs hs bs) ws
+    → IsSoundPoint net (state_of_arrays rs hs bs) ws
 made_sound net valid m fits rs hs ws bs registers held memories wires =
     let state : List ℕ → List ℕ → List (List ℕ) → State = λ r h b. record { registers = r; held = h; memories = b } in
-    let same : start_of net m ≡ state_of rs hs bs =
+    let same : start_of net m ≡ state_of_arrays rs hs bs =
     ap (λ x. state x (replicate (length net.drivers) 0) m) (sym registers) ∙ (ap (λ x. state rs x m) (sym held) ∙ ap (λ x. state rs hs x) (sym memories)) in
     subst (λ (s : State). IsSoundPoint net s ws) same (starts_sound net valid m fits ws (subst (λ (s : State). Settles net s ws) (sym same) wires))
 
@@ -309,17 +309,17 @@ clashes_all net s ws xs clash p ok same clashes b is vs settled =
     subst (λ (q : Point). clash ≡ has_clashes vs q.net.drivers) (sym is) (subst (λ (x : List ℕ). clash ≡ has_clashes x net.drivers) one clashes)
 
 -- the same where the ports are at hand in a list of their own
-module _ (net : Net) (rs hs ws : List ℕ) (bs : List (Vec ℕ Global)) (ports : List Port) (ok : IsSoundPoint net (state_of rs hs bs) ws) (ports_are : ports ≡ ports_of net.table)
+module _ (net : Net) (rs hs ws : List ℕ) (bs : List (Vec ℕ Global)) (ports : List Port) (ok : IsSoundPoint net (state_of_arrays rs hs bs) ws) (ports_are : ports ≡ ports_of net.table)
     (registers held : List ℕ) (loaded : registers ≡ map (λ r. get_or ws r.next 0) net.registers)
     (read : held ≡ held_after net.table ws net.drivers ports (map (λ b. b.items) bs) hs) where
   read_here : held ≡ held_after net.table ws net.drivers (ports_of net.table) (map (λ b. b.items) bs) hs
   read_here = read ∙ ap (λ ps. held_after net.table ws net.drivers ps (map (λ b. b.items) bs) hs) ports_are
 
   pub arrays_stay : ArraysFit net registers held
-  arrays_stay = clock_fits net (state_of rs hs bs) (record { registers = registers; held = held; memories = [] }) ws ok loaded read_here
+  arrays_stay = clock_fits net (state_of_arrays rs hs bs) (record { registers = registers; held = held; memories = [] }) ws ok loaded read_here
 
   pub sound_stays : (after : List (Vec ℕ Global)) (vs : List ℕ) → map (λ b. b.items) after ≡ memories_after net.table ws net.drivers ports (map (λ b. b.items) bs)
-      → IsValuation net.table net.cells registers held vs → IsSoundPoint net (state_of registers held after) vs
+      → IsValuation net.table net.cells registers held vs → IsSoundPoint net (state_of_arrays registers held after) vs
   sound_stays after vs written settled =
       let here = written ∙ ap (λ ps. memories_after net.table ws net.drivers ps (map (λ b. b.items) bs)) ports_are in
-      stays_sound net (state_of rs hs bs) (state_of registers held after) ws vs ok loaded read_here here settled
+      stays_sound net (state_of_arrays rs hs bs) (state_of_arrays registers held after) ws vs ok loaded read_here here settled

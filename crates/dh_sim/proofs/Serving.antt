@@ -19,7 +19,7 @@ use Rattle.dh_net.specs.declared.nets.Net.{Net}
 use Rattle.dh_net.specs.declared.ports.Port.{Port}
 use Rattle.dh_net.proofs.PortWalks.{small_memories}
 use Rattle.dh_sim.specs.Points.{lists_of}
-use Rattle.dh_sim.specs.Rooms.{IsPlaced}
+use Rattle.dh_sim.specs.Rooms.{IsPlacedPort}
 
 -- the list from index i on: its item there, and the rest
 from_item : {X : Type 0} → (xs : List X) (i : ℕ) (d : X) → i < length xs → drop i xs ≡ get_or xs i d ∷ drop (i + 1) xs
@@ -53,19 +53,19 @@ memories_on table ws ms dss ps i p in_drivers in_ports =
 -- each port of a table is one of a bank of a memory there
 
 placed_run : (whole : List MemEntry) (memory : ℕ) (e : MemEntry) (k n : ℕ) → slice_get whole memory ≡ Some e → IsSmallMemory e → k + n ≤ port_count e
-    → AllByRecursion (IsPlaced whole) (memory_ports memory e k n)
+    → AllByRecursion (IsPlacedPort whole) (memory_ports memory e k n)
 placed_run whole memory e k zero at small h = tt
 placed_run whole memory e k (suc n) at small h = (
   record { entry = e; there = at; small = small; bank = row_below k (banks_of e.shape.dims) e.shape.ports (omega (arith, h)); rows = refl },
   placed_run whole memory e (k + 1) n at small (omega (arith, h)),
 )
 
-both_placed : (whole : List MemEntry) (ps qs : List Port) → AllByRecursion (IsPlaced whole) ps → AllByRecursion (IsPlaced whole) qs → AllByRecursion (IsPlaced whole) (ps ++ qs)
+both_placed : (whole : List MemEntry) (ps qs : List Port) → AllByRecursion (IsPlacedPort whole) ps → AllByRecursion (IsPlacedPort whole) qs → AllByRecursion (IsPlacedPort whole) (ps ++ qs)
 both_placed whole [] qs h k = k
 both_placed whole (p ∷ ps) qs h k = (h.0, both_placed whole ps qs h.1 k)
 
 placed_from : (whole : List MemEntry) (first : ℕ) (es : List MemEntry) → ((k : ℕ) (e : MemEntry) → slice_get es k ≡ Some e → slice_get whole (first + k) ≡ Some e)
-    → AllByRecursion IsSmallMemory es → AllByRecursion (IsPlaced whole) (ports_from first es)
+    → AllByRecursion IsSmallMemory es → AllByRecursion (IsPlacedPort whole) (ports_from first es)
 placed_from whole first [] at h = tt
 placed_from whole first (e ∷ es) at h =
     let none : first + 0 ≡ first = omega arith in
@@ -82,15 +82,15 @@ at_each P [] i x h at = absurd (cc)
 at_each P (y ∷ xs) zero x h at = let same : y ≡ x = cc in subst P same h.0
 at_each P (y ∷ xs) (suc i) x h at = at_each P xs i x h.1 at
 
-pub all_placed : (table : List MemEntry) → AllByRecursion IsSmallMemory table → (i : ℕ) (p : Port) → slice_get (ports_of table) i ≡ Some p → IsPlaced table p
-all_placed table h i p at = at_each (IsPlaced table) (ports_of table) i p (placed_from table 0 table same h) at
+pub all_placed : (table : List MemEntry) → AllByRecursion IsSmallMemory table → (i : ℕ) (p : Port) → slice_get (ports_of table) i ≡ Some p → IsPlacedPort table p
+all_placed table h i p at = at_each (IsPlacedPort table) (ports_of table) i p (placed_from table 0 table same h) at
   where
     same : (k : ℕ) (e : MemEntry) → slice_get table k ≡ Some e → slice_get table (0 + k) ≡ Some e
     same k e there = let none : 0 + k ≡ k = omega arith in ap (λ i. slice_get table i) none ∙ there
 
 -- the port that the walk is at
 pub placed_at : (table : List MemEntry) → AllByRecursion IsSmallMemory table → (ports : List Port) (i : ℕ) (p d : Port) → ports ≡ ports_of table → i < length ports → p ≡ get_or ports i d
-    → IsPlaced table p
+    → IsPlacedPort table p
 placed_at table h ports i p d same inside is =
     let there : slice_get (ports_of table) i ≡ Some p = subst (λ (xs : List Port). slice_get xs i ≡ Some p) same (slice_get-get_or ports i d inside ∙ ap Some (sym is)) in
     all_placed table h i p there
@@ -104,9 +104,9 @@ module _ (net : Net) (valid : IsValid net) (table : List MemEntry) (ports : List
   in_ports : i < length ports
   in_ports = let same = ap length ports_are in let long = valid.ports in let within = in_drivers in omega (arith, same, long, within)
 
-  pub port_placed : IsPlaced table (get_or ports i d)
+  pub port_placed : IsPlacedPort table (get_or ports i d)
   port_placed =
-      subst (λ (t : List MemEntry). IsPlaced t (get_or ports i d)) (sym table_is)
+      subst (λ (t : List MemEntry). IsPlacedPort t (get_or ports i d)) (sym table_is)
       (placed_at net.table (small_memories net.table valid.table) ports i (get_or ports i d) d ports_are in_ports refl)
 
   module _ (ws : List ℕ) (item slice : List Driver) (o : Option Driver) (item_is : item ≡ get_or items i item) (slice_is : slice ≡ item) (first : o ≡ served ws slice) where

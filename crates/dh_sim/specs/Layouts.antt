@@ -15,7 +15,7 @@ abbrev pub firsts_of : List MemEntry → List ℕ
 firsts_of table = firsts_from 0 table
 
 -- the layout of a net of this table
-pub record IsLayout (table : List MemEntry) (l : Layout) : Type 0 where
+pub record IsTableLayout (table : List MemEntry) (l : Layout) : Type 0 where
   pub ports : l.ports.items ≡ ports_of table
   pub firsts : l.firsts.items ≡ firsts_of table
 

@@ -8,7 +8,7 @@ use Rattle.dh_net.specs.Valid.{IsValid}
 use Rattle.dh_net.specs.Clock.{State, Settles, has_clashes, held_after, memories_after, start_of}
 use Rattle.dh_net.specs.Laws.{FitsNet}
 use Rattle.dh_sim.specs.declared.layouts.Layout.{Layout}
-use Rattle.dh_sim.specs.Layouts.{IsLayout}
+use Rattle.dh_sim.specs.Layouts.{IsTableLayout}
 
 -- a simulator: its net, the state in which it stands, and whether the last clock had a clash
 pub record Point : Type 0 where
@@ -21,8 +21,8 @@ abbrev pub lists_of : List (Vec ℕ Global) → List (List ℕ)
 lists_of memories = map (λ m. m.items) memories
 
 -- the state that flat arrays hold
-abbrev pub state_of : (registers held : List ℕ) (memories : List (Vec ℕ Global)) → State
-state_of registers held memories = record { registers = registers; held = held; memories = lists_of memories }
+abbrev pub state_of_arrays : (registers held : List ℕ) (memories : List (Vec ℕ Global)) → State
+state_of_arrays registers held memories = record { registers = registers; held = held; memories = lists_of memories }
 
 -- a simulator before its net's first clock, with these memories
 abbrev pub started : Net → List (List ℕ) → Point
@@ -51,4 +51,4 @@ pub record IsSoundPoint (net : Net) (s : State) (wires : List ℕ) : Type 0 wher
 
 -- so it is of a simulator of this net, whose layout is that of the net
 abbrev pub IsSoundSim : Net → Layout → (registers held : List ℕ) → (memories : List (Vec ℕ Global)) → (wires : List ℕ) → Type 0
-IsSoundSim net layout registers held memories wires = IsLayout net.table layout × IsSoundPoint net (state_of registers held memories) wires
+IsSoundSim net layout registers held memories wires = IsTableLayout net.table layout × IsSoundPoint net (state_of_arrays registers held memories) wires

@@ -41,8 +41,8 @@ abbrev pub HasRooms : Net → (registers held wires : List ℕ) → Cell → Typ
 HasRooms net registers held wires c = IsInRooms net.table (length registers) (length held) (length wires) c.form
 
 -- the value of the cell of a net, by the registers, the held data and the wires
-abbrev pub value_in : Net → (registers held wires : List ℕ) → Cell → ℕ
-value_in net registers held wires c = form_value net.table net.cells registers held wires c.width c.form
+abbrev pub cell_value_in : Net → (registers held wires : List ℕ) → Cell → ℕ
+cell_value_in net registers held wires c = form_value net.table net.cells registers held wires c.width c.form
 
 -- a wire is below 2 to the power of a width
 abbrev pub WireFits : List ℕ → (wire width : ℕ) → Type 0
@@ -76,7 +76,7 @@ IsServedInRooms wires None = Unit {0}
 IsServedInRooms wires (Some d) = IsDriverInRooms wires d
 
 -- the port is one of a bank of a memory of the table
-pub record IsPlaced (table : List MemEntry) (p : Port) : Type 0 where
+pub record IsPlacedPort (table : List MemEntry) (p : Port) : Type 0 where
   pub entry : MemEntry
   pub there : slice_get table p.memory ≡ Some entry
   pub small : IsSmallMemory entry

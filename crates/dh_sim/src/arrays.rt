@@ -3,8 +3,8 @@
 ghost use Rattle.std.specs.Prelude.{◌≡◌, ◌<◌, ◌^◌, length, map, replicate, slice_index, IfOk};
 ghost use Rattle.dh_net.specs.Valid.{IsValid};
 ghost use Rattle.dh_net.specs.Clock.{IsValuation, Clocks, has_clashes};
-ghost use Rattle.dh_sim.specs.Layouts.{IsLayout, ArraysFit};
-ghost use Rattle.dh_sim.specs.Points.{IsSoundPoint, lists_of, state_of};
+ghost use Rattle.dh_sim.specs.Layouts.{IsTableLayout, ArraysFit};
+ghost use Rattle.dh_sim.specs.Points.{IsSoundPoint, lists_of, state_of_arrays};
 ghost use Rattle.dh_sim.specs.Shows.{ShowsAs};
 
 use crate::cells::settle;
@@ -56,7 +56,7 @@ pub fn settled_wires(
     held: &[u64],
 ) -> Result<Vec<u64>, NoMemory>
     requires valid { IsValid net.now }
-    requires layout { IsLayout net.now.table layout.now }
+    requires layout { IsTableLayout net.now.table layout.now }
     requires fit { ArraysFit net.now registers.now held.now }
     requires registers { length registers.now ≡ length net.now.registers }
     requires held { length held.now ≡ length net.now.drivers }
@@ -104,11 +104,11 @@ pub fn clock_arrays(
     memories: &mut [Vec<u64>],
     wires: &mut [u64],
 ) -> bool
-    requires layout { IsLayout net.now.table layout.now }
-    requires sound { IsSoundPoint net.now (state_of registers.old held.old memories.old) wires.old }
-    ensures clocked { Clocks net.now (state_of registers.old held.old memories.old)
-        (state_of registers.new held.new memories.new) }
-    ensures sound { IsSoundPoint net.now (state_of registers.new held.new memories.new) wires.new }
+    requires layout { IsTableLayout net.now.table layout.now }
+    requires sound { IsSoundPoint net.now (state_of_arrays registers.old held.old memories.old) wires.old }
+    ensures clocked { Clocks net.now (state_of_arrays registers.old held.old memories.old)
+        (state_of_arrays registers.new held.new memories.new) }
+    ensures sound { IsSoundPoint net.now (state_of_arrays registers.new held.new memories.new) wires.new }
     ensures clash { result ≡ has_clashes wires.old net.now.drivers }
 {
     let ports = layout.ports.as_slice();

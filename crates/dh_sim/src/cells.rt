@@ -7,8 +7,8 @@ ghost use Rattle.dh_value.specs.declared.kinds.Kind.TheVariants.{Unsigned};
 ghost use Rattle.dh_net.specs.Clock.{unsigned_result, shifted, shifted_signed, is_less_signed, sign_extended, IsValuation};
 ghost use Rattle.dh_value.specs.declared.operators.Op.TheVariants.{Shr};
 ghost use Rattle.dh_net.specs.Valid.{IsValid};
-ghost use Rattle.dh_sim.specs.Layouts.{IsLayout, ArraysFit};
-ghost use Rattle.dh_sim.specs.Rooms.{HasRooms, value_in, AreWords};
+ghost use Rattle.dh_sim.specs.Layouts.{IsTableLayout, ArraysFit};
+ghost use Rattle.dh_sim.specs.Rooms.{HasRooms, cell_value_in, AreWords};
 
 use crate::layouts::Layout;
 use dh_net::{Cell, CellForm, Net, wire_width};
@@ -109,11 +109,11 @@ fn cell_value(
     held: &[u64],
     wires: &[u64],
 ) -> u64
-    requires layout { IsLayout net.now.table layout.now }
+    requires layout { IsTableLayout net.now.table layout.now }
     requires width { IsWidth cell.width }
     requires rooms { HasRooms net.now registers.now held.now wires.now cell }
     requires words { AreWords net.now.cells wires.now cell.width cell.form }
-    ensures { result ≡ value_in net.now registers.now held.now wires.now cell }
+    ensures { result ≡ cell_value_in net.now registers.now held.now wires.now cell }
 {
     let width = cell.width;
     match cell.form {
@@ -157,7 +157,7 @@ fn cell_value(
 /// Gives each wire its value, in one walk over the cells. What the wires had does not matter.
 pub fn settle(net: &Net, layout: &Layout, registers: &[u64], held: &[u64], wires: &mut [u64])
     requires valid { IsValid net.now }
-    requires layout { IsLayout net.now.table layout.now }
+    requires layout { IsTableLayout net.now.table layout.now }
     requires fit { ArraysFit net.now registers.now held.now }
     requires registers { length registers.now ≡ length net.now.registers }
     requires held { length held.now ≡ length net.now.drivers }

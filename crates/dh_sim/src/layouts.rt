@@ -3,7 +3,7 @@
 ghost use Rattle.std.specs.Prelude.{◌≡◌, ◌<◌, ◌^◌, length, IfOk};
 ghost use Rattle.dh_tree.specs.Shapes.{IsProgramTable};
 ghost use Rattle.dh_net.specs.BankPorts.{port_number};
-ghost use Rattle.dh_sim.specs.Layouts.{IsLayout, firsts_of};
+ghost use Rattle.dh_sim.specs.Layouts.{IsTableLayout, firsts_of};
 
 use dh_base::NoMemory;
 use dh_net::{Port, count_ports, list_ports};
@@ -42,7 +42,7 @@ impl Layout {
     /// `NoMemory` where an allocation was refused.
     pub fn new(alloc: Global, table: &[MemEntry]) -> Result<Layout, NoMemory>
         requires { IsProgramTable table.now }
-        ensures { IfOk result (λ layout. IsLayout table.now layout) }
+        ensures { IfOk result (λ layout. IsTableLayout table.now layout) }
     {
         Ok(Layout {
             ports: list_ports(alloc, table)?,
@@ -52,7 +52,7 @@ impl Layout {
 
     /// The place of a port.
     pub fn place(&self, table: &[MemEntry], memory: u32, bank: u32, port: u32) -> u64
-        requires layout { IsLayout table.now self.now }
+        requires layout { IsTableLayout table.now self.now }
         requires memory { memory < length table.now }
         requires small { port_number table.now memory bank port < 2 ^ 64 }
         ensures { result ≡ port_number table.now memory bank port }

@@ -6,7 +6,7 @@ ghost use Rattle.dh_net.specs.BankPorts.{ports_of};
 ghost use Rattle.dh_net.specs.Clock.{has_clash, has_clashes, served, memory_at, position_of_row, row_value, with_row, held_by, written_by};
 ghost use Rattle.dh_net.specs.Valid.{IsValid};
 ghost use Rattle.dh_sim.specs.Points.{lists_of, ReadsPorts, WritesPorts};
-ghost use Rattle.dh_sim.specs.Rooms.{AreDriversInRooms, IsServedInRooms, IsPlaced};
+ghost use Rattle.dh_sim.specs.Rooms.{AreDriversInRooms, IsServedInRooms, IsPlacedPort};
 
 use dh_extents::place_in_bank;
 use dh_net::{Driver, Net, Port};
@@ -80,7 +80,7 @@ fn set_element(list: &mut Vec<u64>, place: u64, value: u64)
 
 // The place of a row of the port's bank among the elements of its memory.
 fn place_of_row(table: &[MemEntry], port: Port, row: u64) -> u64
-    requires placed { IsPlaced table.now port }
+    requires placed { IsPlacedPort table.now port }
     requires row { row < port.rows }
     ensures { result ≡ position_of_row table.now port row }
 {
@@ -93,7 +93,7 @@ fn place_of_row(table: &[MemEntry], port: Port, row: u64) -> u64
 
 // The element in a row of the port's bank, 0 where that is no row of it.
 fn row_at(table: &[MemEntry], port: Port, memories: &[Vec<u64>], row: u64) -> u64
-    requires placed { IsPlaced table.now port }
+    requires placed { IsPlacedPort table.now port }
     requires memories { length memories.now ≡ length table.now }
     ensures { result ≡ row_value table.now port (lists_of memories.now) row }
 {
@@ -110,7 +110,7 @@ fn row_at(table: &[MemEntry], port: Port, memories: &[Vec<u64>], row: u64) -> u6
 
 // Writes a row of the port's bank, where it is one.
 fn set_row(table: &[MemEntry], port: Port, memories: &mut [Vec<u64>], row: u64, value: u64)
-    requires placed { IsPlaced table.now port }
+    requires placed { IsPlacedPort table.now port }
     requires memories { length memories.old ≡ length table.now }
     ensures { lists_of memories.new ≡ with_row table.now port (lists_of memories.old) row value }
 {
@@ -129,7 +129,7 @@ fn held_datum(
     memories: &[Vec<u64>],
     had: u64,
 ) -> u64
-    requires placed { IsPlaced table.now port }
+    requires placed { IsPlacedPort table.now port }
     requires driver { IsServedInRooms (length wires.now) driver }
     requires memories { length memories.now ≡ length table.now }
     ensures { result ≡ held_by table.now wires.now port driver (lists_of memories.now) had }
@@ -148,7 +148,7 @@ fn write_row(
     wires: &[u64],
     memories: &mut [Vec<u64>],
 )
-    requires placed { IsPlaced table.now port }
+    requires placed { IsPlacedPort table.now port }
     requires driver { IsServedInRooms (length wires.now) driver }
     requires memories { length memories.old ≡ length table.now }
     ensures { lists_of memories.new

@@ -32,13 +32,13 @@ pub struct Sim<'a> {
 }
 
 impl<'a> Model for Sim<'a> {
-    ghost use Rattle.dh_sim.specs.Points.{Point, IsSoundSim, state_of};
+    ghost use Rattle.dh_sim.specs.Points.{Point, IsSoundSim, state_of_arrays};
 
     ghost Value = { Point };
 
     ghost view = { λ s. record {
       net = s.net.now;
-      state = state_of s.registers.items s.held.items s.memories.items;
+      state = state_of_arrays s.registers.items s.held.items s.memories.items;
       clash = s.clash;
     } };
 

@@ -30,8 +30,8 @@ use Rattle.dh_ports.specs.Wholes.{of_access, touched_by, Touched}
 use Rattle.dh_ports.proofs.ClaimedBanks.{kept_some, path_there, some_kept, there_path, LeadsAt}
 use Rattle.dh_ports.proofs.ClaimFacts.{found, number_unled}
 use Rattle.dh_ports.specs.Banks.{bank_at_path, path_of_number}
-use Rattle.dh_size.specs.Sizes.{banks_led, banks_met, banks_reached, banks_through, banks_within, count_below, is_reached, is_reached_through, marked, size_by}
-use Rattle.dh_size.specs.Marks.{AreMarked}
+use Rattle.dh_size.specs.Sizes.{banks_led, banks_met, memory_banks_reached, banks_through, banks_within, count_below, is_reached, is_reached_through, marked, size_by}
+use Rattle.dh_size.specs.Marks.{AreBankMarks}
 use Rattle.dh_size.proofs.MarkTurns.{all_reached, marks_counted, paths_counted}
 
 absurd : {A : Type 0} → ⊥ → A
@@ -84,7 +84,7 @@ entry_reached p a number entry known stands =
     let mine = found (memories_of p) a.entity number known in
     let same : entry_of mine.memory ≡ entry = some_same (entry_of mine.memory) entry (sym mine.entry ∙ stands) in
     ap (λ w. banks_led p w a) (number_unled p a.entity number known)
-    ∙ (ap (λ o. banks_reached p o a) mine.is
+    ∙ (ap (λ o. memory_banks_reached p o a) mine.is
     ∙ ap (λ (e : MemEntry). count_below (is_reached p e.shape.dims a) (banks_of e.shape.dims)) same)
   where
     some_same : (x y : MemEntry) → Some x ≡ Some y → x ≡ y
@@ -98,7 +98,7 @@ entry_missing p a number known none = absurd (some_none (entry_of (found (memori
     some_none x e = cc
 
 pub none_met : (p : Program) (a : SourceAccess) → number_in (memories_of p) a.entity ≡ None → way_to p a.entity ≡ None → banks_met p a ≡ 0
-none_met p a e u = ap (λ w. banks_led p w a) u ∙ ap (λ o. banks_reached p o a) (no_memory (memories_of p) a.entity e)
+none_met p a e u = ap (λ w. banks_led p w a) u ∙ ap (λ o. memory_banks_reached p o a) (no_memory (memories_of p) a.entity e)
 
 -- Charges.
 
@@ -158,17 +158,17 @@ module _ (p : Program) (number : ℕ) (a : SourceAccess) (stands : slice_get (ac
       none None = refl
       none (Some n) = refl
 
-  by_entity : (entity : Option ℕ) (shares : Bool) → a.entity ≡ entity → is_some (shared p number) ≡ shares → entity_banks_charged p number entity ≡ unless shares (banks_reached p (memory_in (memories_of p) entity) a)
-  by_entity None shares e f = none_unless shares ∙ ap (λ o. unless shares (banks_reached p o a)) (sym (none_named (memories_of p)))
+  by_entity : (entity : Option ℕ) (shares : Bool) → a.entity ≡ entity → is_some (shared p number) ≡ shares → entity_banks_charged p number entity ≡ unless shares (memory_banks_reached p (memory_in (memories_of p) entity) a)
+  by_entity None shares e f = none_unless shares ∙ ap (λ o. unless shares (memory_banks_reached p o a)) (sym (none_named (memories_of p)))
   by_entity (Some memory) shares e f = by_memory (memory_in (memories_of p) (Some memory)) refl
     where
-      by_memory : (o : Option Memory) → memory_in (memories_of p) (Some memory) ≡ o → banks_charged p memory number (memory_banks (memory_in (memories_of p) (Some memory))) ≡ unless shares (banks_reached p (memory_in (memories_of p) (Some memory)) a)
-      by_memory None g = ap (λ o. banks_charged p memory number (memory_banks o)) g ∙ (none_unless shares ∙ ap (λ o. unless shares (banks_reached p o a)) (sym g))
+      by_memory : (o : Option Memory) → memory_in (memories_of p) (Some memory) ≡ o → banks_charged p memory number (memory_banks (memory_in (memories_of p) (Some memory))) ≡ unless shares (memory_banks_reached p (memory_in (memories_of p) (Some memory)) a)
+      by_memory None g = ap (λ o. banks_charged p memory number (memory_banks o)) g ∙ (none_unless shares ∙ ap (λ o. unless shares (memory_banks_reached p o a)) (sym g))
       by_memory (Some m) g =
           ap (λ o. banks_charged p memory number (memory_banks o)) g
-          ∙ (some_banks memory m e g (banks_of m.shape.dims) shares f ∙ ap (λ o. unless shares (banks_reached p o a)) (sym g))
+          ∙ (some_banks memory m e g (banks_of m.shape.dims) shares f ∙ ap (λ o. unless shares (memory_banks_reached p o a)) (sym g))
 
-  pub direct_banks : (shares : Bool) → shares ≡ is_some (shared p number) → unless shares (banks_reached p (memory_in (memories_of p) a.entity) a) ≡ entity_banks_charged p number a.entity
+  pub direct_banks : (shares : Bool) → shares ≡ is_some (shared p number) → unless shares (memory_banks_reached p (memory_in (memories_of p) a.entity) a) ≡ entity_banks_charged p number a.entity
   direct_banks shares e = sym (by_entity a.entity shares refl (sym e))
 
 -- Charges through views.
@@ -333,7 +333,7 @@ count_same s t (suc n) h = ap (λ b. (if b then 1 else 0) + count_below s n) (h 
 pub bare_size : (p : Program) (shares : Bool) (a : SourceAccess) → size_by p shares (bare a) ≡ size_by p shares a
 bare_size p shares a = ap (λ n. length (paths_of a) * suc (if shares then 0 else n)) (by_way (way_to p a.entity))
   where
-    by_memory : (o : Option Memory) → banks_reached p o (bare a) ≡ banks_reached p o a
+    by_memory : (o : Option Memory) → memory_banks_reached p o (bare a) ≡ memory_banks_reached p o a
     by_memory None = refl
     by_memory (Some m) = count_same (is_reached p m.shape.dims (bare a)) (is_reached p m.shape.dims a) (banks_of m.shape.dims) (reached_same p a m)
 
@@ -354,13 +354,13 @@ same_access loops (term place kind form) writes a e f =
 
 -- Banks of a memory that is there.
 
-pub marks_done : (tree : Tree) (a : SourceAccess) (dims : List Dim) (marks shown : List Bool) (copies result : ℕ) → copies ≡ copies_in (loop_factors a.site.loops) → AreMarked tree dims a (banks_of dims) copies marks → shown ≡ marks → result ≡ marked shown
+pub marks_done : (tree : Tree) (a : SourceAccess) (dims : List Dim) (marks shown : List Bool) (copies result : ℕ) → copies ≡ copies_in (loop_factors a.site.loops) → AreBankMarks tree dims a (banks_of dims) copies marks → shown ≡ marks → result ≡ marked shown
     → result ≡ banks_within (program_seen tree) dims a
 marks_done tree a dims marks shown copies result copied so shown_is counted =
     counted
     ∙ (ap marked shown_is ∙ marks_counted marks (banks_of dims) (is_reached (program_seen tree) dims a) so.long (λ b within. so.each b within ∙ all_reached tree dims a copies b copied))
 
-pub marks_few : (tree : Tree) (a : SourceAccess) (dims : List Dim) (marks shown : List Bool) (copies : ℕ) → banks_of dims ≤ 64 → AreMarked tree dims a (banks_of dims) copies marks → shown ≡ marks → length shown ≤ 64
+pub marks_few : (tree : Tree) (a : SourceAccess) (dims : List Dim) (marks shown : List Bool) (copies : ℕ) → banks_of dims ≤ 64 → AreBankMarks tree dims a (banks_of dims) copies marks → shown ≡ marks → length shown ≤ 64
 marks_few tree a dims marks shown copies few so shown_is = subst (λ (n : ℕ). n ≤ 64) (sym (ap length shown_is ∙ so.long)) few
 
 -- of one copy

@@ -30,8 +30,8 @@ use Rattle.dh_ports.specs.Wholes.{happenings_of, loops_known, of_access, sites_i
 use Rattle.dh_ports.proofs.ClaimedBanks.{LeadsAt}
 use Rattle.dh_ports.proofs.SitesTold.{tells_loops}
 use Rattle.dh_ports.proofs.SpentTold.{IsWhole, whole_is}
-use Rattle.dh_size.specs.Sizes.{size_by, sizes_from, AreFew}
-use Rattle.dh_size.specs.Summed.{summed, unit_size}
+use Rattle.dh_size.specs.Sizes.{size_by, sizes_from, EventsHaveFewCopies}
+use Rattle.dh_size.specs.Summed.{capped_sum, unit_size}
 use Rattle.dh_size.proofs.ChargedBanks.{bare_size, same_access, size_told}
 use Rattle.dh_size.proofs.SummedParts.{summed_twice, summed_none, summed_small}
 use Rattle.dh_size.proofs.UnitSizes.{unit_once}
@@ -81,7 +81,7 @@ sizes_told p shares so u (ends ∷ xs) those n e l h = sizes_told p shares so u 
 
 pub few_told : (p : Program) (xs : List PortEvent) (those : List SourceAccess) → touched xs ≡ map of_access those
     → ((k : ℕ) (s : Site) (a : SourceAccess) → slice_get (sites_in xs) k ≡ Some s → slice_get those k ≡ Some a → loops_known p s.round ≡ a.site.loops)
-    → ((k : ℕ) (a : SourceAccess) → slice_get those k ≡ Some a → copies_in (loop_factors a.site.loops) ≤ most_copies) → AreFew (loops_known p) xs
+    → ((k : ℕ) (a : SourceAccess) → slice_get those k ≡ Some a → copies_in (loop_factors a.site.loops) ≤ most_copies) → EventsHaveFewCopies (loops_known p) xs
 few_told p [] those e l h = tt
 few_told p (touches t w s ∷ xs) [] e l h = absurd (some_none (touched_by t w) (touched xs) e)
 few_told p (touches t w s ∷ xs) (a ∷ those) e l h = (
@@ -108,8 +108,8 @@ module _ (p : Program) (first : ℕ) (numbers : IsNumbered first p.body) (rounds
   whole : IsWhole p (all_seen events)
   whole = whole_is p (all_seen events) (tells_loops first p numbers) seen
 
-  pub events_few : HasFewCopies p → AreFew (loops_listed rounds) (all_seen events)
-  events_few few = subst (λ (f : Option ℕ → List Counter). AreFew f (all_seen events)) (sym (noted_loops p rounds noted)) (few_told p (all_seen events) (accesses_in (trace p)) whole.touched_all whole.loops few)
+  pub events_few : HasFewCopies p → EventsHaveFewCopies (loops_listed rounds) (all_seen events)
+  events_few few = subst (λ (f : Option ℕ → List Counter). EventsHaveFewCopies f (all_seen events)) (sym (noted_loops p rounds noted)) (few_told p (all_seen events) (accesses_in (trace p)) whole.touched_all whole.loops few)
 
   pub events_sized : (shares : List (Option ℕ)) → ((k : ℕ) (a : SourceAccess) → slice_get (accesses_in (trace p)) k ≡ Some a → (w : Way) → way_to p a.entity ≡ Some w → LeadsAt p w a) → TellsShares p shares → sizes_from p (loops_listed rounds) shares 0 (all_seen events) ≡ accesses_size p 0 (accesses_in (trace p))
   events_sized shares u so =
@@ -120,10 +120,10 @@ module _ (p : Program) (first : ℕ) (numbers : IsNumbered first p.body) (rounds
       from_none k = omega arith
 
 -- the size that is reported, by sums that stop at the greatest number
-pub size_done : (p : Program) (sizes accesses whole result : ℕ) → accesses ≡ summed 0 sizes → sizes ≡ accesses_size p 0 (accesses_in (trace p)) → whole ≡ summed accesses (unit_size p.body) → result ≡ min whole 1000000000 → result ≡ size_reported p
+pub size_done : (p : Program) (sizes accesses whole result : ℕ) → accesses ≡ capped_sum 0 sizes → sizes ≡ accesses_size p 0 (accesses_in (trace p)) → whole ≡ capped_sum accesses (unit_size p.body) → result ≡ min whole 1000000000 → result ≡ size_reported p
 size_done p sizes accesses whole result e f g h =
     h
-    ∙ (ap (λ n. min n 1000000000) (g ∙ (ap (λ n. summed n (unit_size p.body)) e ∙ summed_twice 0 sizes (unit_size p.body)))
+    ∙ (ap (λ n. min n 1000000000) (g ∙ (ap (λ n. capped_sum n (unit_size p.body)) e ∙ summed_twice 0 sizes (unit_size p.body)))
     ∙ (cut_again (0 + (sizes + unit_size p.body))
     ∙ ap (λ n. min n 1000000000) (swapped sizes (unit_size p.body) ∙ (ap (λ n. n + sizes) (sym (unit_once p.body)) ∙ ap (λ n. action_size 1 p.body + n) f))))
   where
@@ -138,15 +138,15 @@ size_done p sizes accesses whole result e f g h =
 -- the sum so far, and what is left of the events
 pub record SizesLeft (p : Program) (loops : Option ℕ → List Counter) (shares : List (Option ℕ)) (left all : List Event) (sum number : ℕ) : Type 0 where
   pub fits : sum ≤ 2 ^ 64 - 1
-  pub few : AreFew loops (all_seen left)
-  pub summed_so : summed sum (sizes_from p loops shares number (all_seen left)) ≡ summed 0 (sizes_from p loops shares 0 (all_seen all))
+  pub few : EventsHaveFewCopies loops (all_seen left)
+  pub summed_so : capped_sum sum (sizes_from p loops shares number (all_seen left)) ≡ capped_sum 0 (sizes_from p loops shares 0 (all_seen all))
 
-pub sizes_first : (p : Program) (loops : Option ℕ → List Counter) (shares : List (Option ℕ)) (all : List Event) → AreFew loops (all_seen all) → SizesLeft p loops shares all all 0 0
+pub sizes_first : (p : Program) (loops : Option ℕ → List Counter) (shares : List (Option ℕ)) (all : List Event) → EventsHaveFewCopies loops (all_seen all) → SizesLeft p loops shares all all 0 0
 sizes_first p loops shares all few = record { fits = omega arith; few = few; summed_so = refl }
 
 pub sizes_last : (p : Program) (loops : Option ℕ → List Counter) (shares : List (Option ℕ)) (left all : List Event) (sum number : ℕ) → left ≡ [] → SizesLeft p loops shares left all sum number
-    → sum ≡ summed 0 (sizes_from p loops shares 0 (all_seen all))
-sizes_last p loops shares left all sum number none l = sym (summed_none sum l.fits) ∙ (ap (λ es. summed sum (sizes_from p loops shares number (all_seen es))) (sym none) ∙ l.summed_so)
+    → sum ≡ capped_sum 0 (sizes_from p loops shares 0 (all_seen all))
+sizes_last p loops shares left all sum number none l = sym (summed_none sum l.fits) ∙ (ap (λ es. capped_sum sum (sizes_from p loops shares number (all_seen es))) (sym none) ∙ l.summed_so)
 
 module _ (p : Program) (loops : Option ℕ → List Counter) (shares : List (Option ℕ)) (all : List Event) (i : ℕ) (d : Event) (inside : i < length all) (sum number : ℕ) (l : SizesLeft p loops shares (drop i all) all sum number) where
   here : drop i all ≡ get_or all i d ∷ drop (i + 1) all
@@ -156,30 +156,30 @@ module _ (p : Program) (loops : Option ℕ → List Counter) (shares : List (Opt
   seen_here x e = ap all_seen here ∙ ap (λ y. y ∷ all_seen (drop (i + 1) all)) e
 
   pub few_here : (t : Term) (w : Bool) (s : Site) → event_seen (get_or all i d) ≡ touches t w s → copies_round (loops s.round) ≤ most_copies
-  few_here t w s e = (subst (λ (xs : List PortEvent). AreFew loops xs) (seen_here (touches t w s) e) l.few).0
+  few_here t w s e = (subst (λ (xs : List PortEvent). EventsHaveFewCopies loops xs) (seen_here (touches t w s) e) l.few).0
 
   pub touch_turn : (t : Term) (w : Bool) (s : Site) (size sum1 number1 : ℕ) → event_seen (get_or all i d) ≡ touches t w s → size ≡ size_by p (is_some (told shares number)) (access_of (loops s.round) false t) → sum1 ≡ min (sum + size) (2 ^ 64 - 1) → number1 ≡ number + 1
       → SizesLeft p loops shares (drop (i + 1) all) all sum1 number1
   touch_turn t w s size sum1 number1 e sized added next_is = record {
     fits = subst (λ (n : ℕ). n ≤ 2 ^ 64 - 1) (sym added) (summed_small sum size);
-    few = (subst (λ (xs : List PortEvent). AreFew loops xs) (seen_here (touches t w s) e) l.few).1;
+    few = (subst (λ (xs : List PortEvent). EventsHaveFewCopies loops xs) (seen_here (touches t w s) e) l.few).1;
     summed_so =
-        ap (λ n. summed sum1 (sizes_from p loops shares n (all_seen (drop (i + 1) all)))) (next_is ∙ add-one number)
-        ∙ (ap (λ n. summed n (sizes_from p loops shares (suc number) (all_seen (drop (i + 1) all)))) added
+        ap (λ n. capped_sum sum1 (sizes_from p loops shares n (all_seen (drop (i + 1) all)))) (next_is ∙ add-one number)
+        ∙ (ap (λ n. capped_sum n (sizes_from p loops shares (suc number) (all_seen (drop (i + 1) all)))) added
         ∙ (summed_twice sum size (sizes_from p loops shares (suc number) (all_seen (drop (i + 1) all)))
-        ∙ (ap (λ n. summed sum (n + sizes_from p loops shares (suc number) (all_seen (drop (i + 1) all)))) sized
-        ∙ (ap (λ xs. summed sum (sizes_from p loops shares number xs)) (sym (seen_here (touches t w s) e)) ∙ l.summed_so))));
+        ∙ (ap (λ n. capped_sum sum (n + sizes_from p loops shares (suc number) (all_seen (drop (i + 1) all)))) sized
+        ∙ (ap (λ xs. capped_sum sum (sizes_from p loops shares number xs)) (sym (seen_here (touches t w s) e)) ∙ l.summed_so))));
   }
 
   -- an event that is no access
-  pub other_turn : (x : PortEvent) (sum1 number1 : ℕ) → event_seen (get_or all i d) ≡ x → (AreFew loops (x ∷ all_seen (drop (i + 1) all)) → AreFew loops (all_seen (drop (i + 1) all)))
+  pub other_turn : (x : PortEvent) (sum1 number1 : ℕ) → event_seen (get_or all i d) ≡ x → (EventsHaveFewCopies loops (x ∷ all_seen (drop (i + 1) all)) → EventsHaveFewCopies loops (all_seen (drop (i + 1) all)))
       → sizes_from p loops shares number (all_seen (drop (i + 1) all)) ≡ sizes_from p loops shares number (x ∷ all_seen (drop (i + 1) all)) → sum1 ≡ sum → number1 ≡ number → SizesLeft p loops shares (drop (i + 1) all) all sum1 number1
   other_turn x sum1 number1 e few same sum_is number_is =
       subst (λ (n : ℕ). SizesLeft p loops shares (drop (i + 1) all) all n number1) (sym sum_is)
       (subst (λ (n : ℕ). SizesLeft p loops shares (drop (i + 1) all) all sum n) (sym number_is) (record {
         fits = l.fits;
-        few = few (subst (λ (xs : List PortEvent). AreFew loops xs) (seen_here x e) l.few);
-        summed_so = ap (summed sum) same ∙ (ap (λ xs. summed sum (sizes_from p loops shares number xs)) (sym (seen_here x e)) ∙ l.summed_so);
+        few = few (subst (λ (xs : List PortEvent). EventsHaveFewCopies loops xs) (seen_here x e) l.few);
+        summed_so = ap (capped_sum sum) same ∙ (ap (λ xs. capped_sum sum (sizes_from p loops shares number xs)) (sym (seen_here x e)) ∙ l.summed_so);
       }))
 
 pub number_more : (number i number1 : ℕ) → number ≤ i → number1 ≡ number + 1 → number1 ≤ i + 1

@@ -10,7 +10,7 @@ use Rattle.dh_meets.specs.Charges.{loop_factors, paths_of}
 use Rattle.dh_meets.specs.SourceEvents.{SourceAccess}
 use Rattle.dh_ports.specs.Banks.{bank_at_path, path_of_number}
 use Rattle.dh_ports.proofs.PathNumbers.{each_below, no_paths, paths_are}
-use Rattle.dh_size.specs.Marks.{reached_below, AreMarked}
+use Rattle.dh_size.specs.Marks.{reached_below, AreBankMarks}
 use Rattle.dh_size.specs.Sizes.{count_below, is_reached, marked}
 
 absurd : {A : Type 0} → ⊥ → A
@@ -19,7 +19,7 @@ absurd e = elim e [ ]
 -- Marks.
 
 module _ (tree : Tree) (dims : List Dim) (a : SourceAccess) (banks : ℕ) where
-  pub marks_none : (marks : List Bool) → marks ≡ replicate banks false → AreMarked tree dims a banks 0 marks
+  pub marks_none : (marks : List Bool) → marks ≡ replicate banks false → AreBankMarks tree dims a banks 0 marks
   marks_none marks e = record {
     long = ap length e ∙ none_long banks;
     each = λ bank inside. ap (λ l. get_or l bank false) e ∙ none_at banks bank;
@@ -34,12 +34,12 @@ module _ (tree : Tree) (dims : List Dim) (a : SourceAccess) (banks : ℕ) where
       none_at (suc n) zero = refl
       none_at (suc n) (suc b) = none_at n b
 
-  module _ (number : ℕ) (marks : List Bool) (so : AreMarked tree dims a banks number marks) (bank : ℕ) (is : bank ≡ bank_at_path tree dims a (path_of_number (loop_factors a.site.loops) number)) where
+  module _ (number : ℕ) (marks : List Bool) (so : AreBankMarks tree dims a banks number marks) (bank : ℕ) (is : bank ≡ bank_at_path tree dims a (path_of_number (loop_factors a.site.loops) number)) where
     more : (b : ℕ) → reached_below tree dims a (suc number) b ≡ (reached_below tree dims a number b || (bank == b))
     more b = ap (λ n. reached_below tree dims a number b || (n == b)) (sym is)
 
-    pub marks_set : (marks1 : List Bool) → bank < banks → marks1 ≡ slice_set marks bank true → AreMarked tree dims a banks (number + 1) marks1
-    marks_set marks1 inside set = subst (λ (n : ℕ). AreMarked tree dims a banks n marks1) (sym (add-one number)) (record {
+    pub marks_set : (marks1 : List Bool) → bank < banks → marks1 ≡ slice_set marks bank true → AreBankMarks tree dims a banks (number + 1) marks1
+    marks_set marks1 inside set = subst (λ (n : ℕ). AreBankMarks tree dims a banks n marks1) (sym (add-one number)) (record {
       long = ap length set ∙ (set_long marks bank true ∙ so.long);
       each = λ b within. ap (λ l. get_or l b false) set ∙ (by b within (cases_Bool (bank == b)) ∙ sym (more b));
     })
@@ -87,8 +87,8 @@ module _ (tree : Tree) (dims : List Dim) (a : SourceAccess) (banks : ℕ) where
             ∙ (so.each b within ∙ (or_false (reached_below tree dims a number b) ∙ ap (λ t. reached_below tree dims a number b || t) (sym e)))
 
     -- a bank that the memory has not
-    pub marks_beyond : banks ≤ bank → AreMarked tree dims a banks (number + 1) marks
-    marks_beyond out = subst (λ (n : ℕ). AreMarked tree dims a banks n marks) (sym (add-one number)) (record {
+    pub marks_beyond : banks ≤ bank → AreBankMarks tree dims a banks (number + 1) marks
+    marks_beyond out = subst (λ (n : ℕ). AreBankMarks tree dims a banks n marks) (sym (add-one number)) (record {
       long = so.long;
       each = λ b within. so.each b within ∙ (or_false (reached_below tree dims a number b) ∙ (ap (λ t. reached_below tree dims a number b || t) (sym (other b within (cases_Bool (bank == b)))) ∙ sym (more b)));
     })

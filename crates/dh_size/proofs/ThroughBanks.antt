@@ -25,7 +25,7 @@ use Rattle.dh_ports.specs.Banks.{bank_at_path, each_below, path_of_number}
 use Rattle.dh_ports.specs.Carriers.{carried_to, is_carried, one_at, IsCarrier}
 use Rattle.dh_ports.proofs.ClaimTurns.{index_found}
 use Rattle.dh_ports.proofs.ThroughClaims.{one_carried, other_way}
-use Rattle.dh_size.specs.Marks.{any_marked, marked_behind, AreMarked}
+use Rattle.dh_size.specs.Marks.{any_marked, marked_behind, AreBankMarks}
 use Rattle.dh_size.specs.Sizes.{banks_through, count_below, is_reached, is_reached_through}
 use Rattle.dh_size.proofs.ChargedBanks.{below_most}
 use Rattle.dh_size.proofs.MarkTurns.{all_paths, all_reached}
@@ -275,7 +275,7 @@ module _ (tree : Tree) (w : Way) (leads : LeadsTo (memories_of (program_seen tre
       (ap (each_below (path_of_number (loop_factors a.site.loops))) (sym one ∙ copied) ∙ all_paths (loop_factors a.site.loops))))
 
   -- of marks
-  pub marks_told : (a : SourceAccess) (dims : List Dim) (copies : ℕ) (marks shown : List Bool) → dims ≡ w.is.shape.dims → copies ≡ copies_in (loop_factors a.site.loops) → AreMarked tree dims a (banks_of dims) copies marks → shown ≡ marks
+  pub marks_told : (a : SourceAccess) (dims : List Dim) (copies : ℕ) (marks shown : List Bool) → dims ≡ w.is.shape.dims → copies ≡ copies_in (loop_factors a.site.loops) → AreBankMarks tree dims a (banks_of dims) copies marks → shown ≡ marks
       → (behind : ℕ) → behind < length k.sources.items → marked_behind k shown behind ≡ is_reached_through (program_seen tree) w a behind
   marks_told a dims copies marks shown same copied so shown_is behind inside =
       ap (λ ms. marked_behind k ms behind) shown_is
@@ -297,6 +297,6 @@ module _ (tree : Tree) (w : Way) (leads : LeadsTo (memories_of (program_seen tre
           mark_is (slice_index k.sources.items behind) (subst (λ (n : ℕ). slice_index k.sources.items behind < n) (sym counted_same) (carrier.carries.within behind inside))
           ∙ any_same (λ path. bank_at_path tree dims a path == slice_index k.sources.items behind) (λ path. slice_index k.sources.items behind == bank_at_path tree dims a path) (paths_of a) (λ path. other_way (bank_at_path tree dims a path) (slice_index k.sources.items behind))
 
-  pub sources_marked : (a : SourceAccess) (dims : List Dim) (copies : ℕ) (marks shown : List Bool) → dims ≡ w.is.shape.dims → AreMarked tree dims a (banks_of dims) copies marks → shown ≡ marks → (bank : ℕ) → bank < length k.sources.items → slice_index k.sources.items bank < length shown
+  pub sources_marked : (a : SourceAccess) (dims : List Dim) (copies : ℕ) (marks shown : List Bool) → dims ≡ w.is.shape.dims → AreBankMarks tree dims a (banks_of dims) copies marks → shown ≡ marks → (bank : ℕ) → bank < length k.sources.items → slice_index k.sources.items bank < length shown
   sources_marked a dims copies marks shown same so shown_is bank inside =
       subst (λ (n : ℕ). slice_index k.sources.items bank < n) (sym (ap length shown_is ∙ (so.long ∙ (ap banks_of same ∙ sym carrier.carries.banks)))) (carrier.carries.within bank inside)

@@ -7,7 +7,7 @@ use Rattle.dh_ports.specs.Carriers.{AreEach}
 use Rattle.dh_ports.specs.Layouts.{AllWaysLead}
 use Rattle.dh_size.specs.declared.through.Views.{Views}
 
-pub record AreViews (p : Program) (views : Views) : Type 0 where
+pub record AreProgramViews (p : Program) (views : Views) : Type 0 where
   pub ways : map led_seen views.ways.now ≡ ways_of p
   pub carriers : AreEach views.ways.now views.carriers.now
   pub leads : AllWaysLead p

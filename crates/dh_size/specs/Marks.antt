@@ -17,13 +17,13 @@ reached_below tree dims a zero bank = false
 reached_below tree dims a (suc number) bank = reached_below tree dims a number bank || (bank_at_path tree dims a (path_of_number (loop_factors a.site.loops) number) == bank)
 
 -- marks of so many banks, of which those are set that paths below a number reach
-pub record AreMarked (tree : Tree) (dims : List Dim) (a : SourceAccess) (banks number : ℕ) (marks : List Bool) : Type 0 where
+pub record AreBankMarks (tree : Tree) (dims : List Dim) (a : SourceAccess) (banks number : ℕ) (marks : List Bool) : Type 0 where
   pub long : length marks ≡ banks
   pub each : (bank : ℕ) → bank < banks → get_or marks bank false ≡ reached_below tree dims a number bank
 
 -- of each bank of these dimensions a mark, set where an access of the code reaches it in one of so many copies
 abbrev pub AreAllMarked : Tree → List Counter → (copies : ℕ) → List Dim → Expr → List Bool → Type 0
-AreAllMarked tree loops copies dims e marks = AreMarked tree dims (source_of loops false e) (banks_of dims) copies marks
+AreAllMarked tree loops copies dims e marks = AreBankMarks tree dims (source_of loops false e) (banks_of dims) copies marks
 
 -- one of these marks is set
 abbrev pub any_marked : List Bool → Bool

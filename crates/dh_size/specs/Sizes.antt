@@ -42,9 +42,9 @@ abbrev pub banks_within : Program → List Dim → SourceAccess → ℕ
 banks_within p dims a = count_below (is_reached p dims a) (banks_of dims)
 
 -- the banks of its memory that it reaches
-abbrev pub banks_reached : Program → Option Memory → SourceAccess → ℕ
-banks_reached p None a = 0
-banks_reached p (Some m) a = banks_within p m.shape.dims a
+abbrev pub memory_banks_reached : Program → Option Memory → SourceAccess → ℕ
+memory_banks_reached p None a = 0
+memory_banks_reached p (Some m) a = banks_within p m.shape.dims a
 
 -- an access through views reaches this bank behind them at some path
 abbrev pub is_reached_through : Program → Way → SourceAccess → (bank : ℕ) → Bool
@@ -56,7 +56,7 @@ banks_through p w None a = 0
 banks_through p w (Some m) a = count_below (is_reached_through p w a) (banks_of m.shape.dims)
 
 abbrev pub banks_led : Program → Option Way → SourceAccess → ℕ
-banks_led p None a = banks_reached p (memory_in (memories_of p) a.entity) a
+banks_led p None a = memory_banks_reached p (memory_in (memories_of p) a.entity) a
 banks_led p (Some w) a = banks_through p w (memory_in (memories_of p) w.memory) a
 
 -- the banks that it reaches of the memory that its name leads to
@@ -86,15 +86,15 @@ sizes_from p loops shares number (next ∷ xs) = sizes_from p loops shares numbe
 sizes_from p loops shares number (ends ∷ xs) = sizes_from p loops shares number xs
 
 -- each of them stands in few copies
-abbrev pub AreFew : (loops : Option ℕ → List Counter) → List PortEvent → Type 0
-AreFew loops [] = Unit {0}
-AreFew loops (touches access writes site ∷ xs) = (copies_round (loops site.round) ≤ most_copies) × AreFew loops xs
-AreFew loops (assigned entity ∷ xs) = AreFew loops xs
-AreFew loops (arm_begins ∷ xs) = AreFew loops xs
-AreFew loops (arm_ends ∷ xs) = AreFew loops xs
-AreFew loops (begins ∷ xs) = AreFew loops xs
-AreFew loops (next ∷ xs) = AreFew loops xs
-AreFew loops (ends ∷ xs) = AreFew loops xs
+abbrev pub EventsHaveFewCopies : (loops : Option ℕ → List Counter) → List PortEvent → Type 0
+EventsHaveFewCopies loops [] = Unit {0}
+EventsHaveFewCopies loops (touches access writes site ∷ xs) = (copies_round (loops site.round) ≤ most_copies) × EventsHaveFewCopies loops xs
+EventsHaveFewCopies loops (assigned entity ∷ xs) = EventsHaveFewCopies loops xs
+EventsHaveFewCopies loops (arm_begins ∷ xs) = EventsHaveFewCopies loops xs
+EventsHaveFewCopies loops (arm_ends ∷ xs) = EventsHaveFewCopies loops xs
+EventsHaveFewCopies loops (begins ∷ xs) = EventsHaveFewCopies loops xs
+EventsHaveFewCopies loops (next ∷ xs) = EventsHaveFewCopies loops xs
+EventsHaveFewCopies loops (ends ∷ xs) = EventsHaveFewCopies loops xs
 
 -- Of a program as the code knows it.
 

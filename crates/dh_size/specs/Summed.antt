@@ -6,8 +6,8 @@ use Rattle.dh_tree.specs.Seen.{factor_seen, terms}
 use Rattle.dh_plan.specs.PlanSizes.{own_operators, terms_operators}
 
 -- a sum of the code, and so much more
-abbrev pub summed : (sum more : ℕ) → ℕ
-summed sum more = min (sum + more) (2 ^ 64 - 1)
+abbrev pub capped_sum : (sum more : ℕ) → ℕ
+capped_sum sum more = min (sum + more) (2 ^ 64 - 1)
 
 -- the operators of the offsets of a suffix
 abbrev pub suffix_operators : List (ℕ × Expr) → ℕ

@@ -12,7 +12,7 @@ ghost use Rattle.dh_events.specs.Accesses.{entity_in};
 ghost use Rattle.dh_base.specs.Limits.{most_copies};
 ghost use Rattle.dh_ports.specs.Carriers.{IsCarrier};
 ghost use Rattle.dh_ports.specs.Copies.{copies_round};
-ghost use Rattle.dh_size.specs.Led.{AreViews};
+ghost use Rattle.dh_size.specs.Led.{AreProgramViews};
 ghost use Rattle.dh_size.specs.Marks.{AreAllMarked};
 ghost use Rattle.dh_size.specs.NumberedPaths.{numbered_bank};
 ghost use Rattle.dh_size.specs.Sizes as definitions;
@@ -21,38 +21,10 @@ ghost use Rattle.dh_size.specs.Sizes.{led_banks, met_banks, own_banks, size_of_a
 use crate::paths::{bank_at, copies_in};
 use crate::through::{Views, count_behind, count_carried};
 use dh_base::NoMemory;
-use dh_ports::Carrier;
+use dh_ports::{Carrier, bank_count, entity_of};
 use dh_tree::{Counter, Dim, Expr, ExprForm, Typed};
 use dh_ways::WayRef;
 use std::alloc::Global;
-
-/// The banks of dimensions together.
-fn bank_count(dims: &[Dim]) -> u64
-    requires dims { AllByRecursion IsDim dims.now }
-    requires few { banks_of dims.now ≤ most_banks }
-    ensures { result ≡ banks_of dims.now }
-{
-    let mut count: u64 = 1;
-    for i in (0..dims.len()).rev() {
-        count = dims[i].banks * count;
-    }
-    count
-}
-
-/// What an access names.
-#[tactic(auto, using(dh_tree::proofs::SeenTerms::terms_are))]
-fn entity_of(access: &Expr) -> Option<u32>
-    ensures { result ≡ entity_in (form_seen access.now.form) }
-{
-    match &access.form {
-        ExprForm::Access { of, .. } | ExprForm::Physical { of, .. } => of.entity,
-        ExprForm::Number { .. }
-        | ExprForm::Truth { .. }
-        | ExprForm::Variable { .. }
-        | ExprForm::Binary { .. }
-        | ExprForm::Cast { .. } => None,
-    }
-}
 
 /// The number of the memory that an access names, if it is one.
 fn memory_of(typed: &Typed, access: &Expr) -> Option<usize>
@@ -218,7 +190,7 @@ fn banks_led(
     access: &Expr,
 ) -> Result<u64, NoMemory>
     requires table { IsProgramTable (table_of (program_seen typed.now)) }
-    requires views { AreViews (program_seen typed.now) views }
+    requires views { AreProgramViews (program_seen typed.now) views }
     requires copies { copies ≡ copies_round loops.now }
     requires other { number_in (memories_of (program_seen typed.now))
         (entity_in (form_seen access.now.form)) ≡ None }
@@ -245,7 +217,7 @@ fn banks_met(
     access: &Expr,
 ) -> Result<u64, NoMemory>
     requires table { IsProgramTable (table_of (program_seen typed.now)) }
-    requires views { AreViews (program_seen typed.now) views }
+    requires views { AreProgramViews (program_seen typed.now) views }
     requires copies { copies ≡ copies_round loops.now }
     ensures met { IfOk result (λ banks. banks ≡ met_banks typed.now loops.now access.now) }
     ensures few { IfOk result (λ banks. banks ≤ most_banks) }
@@ -272,7 +244,7 @@ pub fn access_size(
     shares: bool,
 ) -> Result<u64, NoMemory>
     requires table { IsProgramTable (table_of (program_seen typed.now)) }
-    requires views { AreViews (program_seen typed.now) views }
+    requires views { AreProgramViews (program_seen typed.now) views }
     requires few { copies_round loops.now ≤ most_copies }
     ensures { IfOk result (λ size. size ≡ size_of_access typed.now loops.now access.now shares) }
 {

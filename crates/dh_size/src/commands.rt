@@ -2,7 +2,7 @@
 
 ghost use Rattle.std.specs.Prelude.{◌≡◌};
 ghost use Rattle.dh_tree.specs.Seen.{action_seen, all_parts_seen, maybe_block_seen};
-ghost use Rattle.dh_size.specs.Summed.{groups_unit, other_unit, summed, unit_size};
+ghost use Rattle.dh_size.specs.Summed.{groups_unit, other_unit, capped_sum, unit_size};
 
 use crate::operators::{with_offsets, with_operators, with_value};
 use dh_tree::{Command, CommandForm};
@@ -11,7 +11,7 @@ use dh_tree::{Command, CommandForm};
 #[cycle(counting)]
 #[tactic(auto, using(dh_tree::proofs::SeenActions::actions_are))]
 pub fn with_command(sum: u64, command: &Command) -> u64
-    ensures { result ≡ summed sum (unit_size (action_seen command.now)) }
+    ensures { result ≡ capped_sum sum (unit_size (action_seen command.now)) }
 {
     let own = sum.saturating_add(1);
     match &command.form {
@@ -52,7 +52,7 @@ pub fn with_command(sum: u64, command: &Command) -> u64
 /// That of a block that may lack.
 #[cycle(counting)]
 fn with_other(sum: u64, other: &Option<Box<Command>>) -> u64
-    ensures { result ≡ summed sum (other_unit (maybe_block_seen other.now)) }
+    ensures { result ≡ capped_sum sum (other_unit (maybe_block_seen other.now)) }
 {
     match other {
         Some(block) => with_command(sum, block),
@@ -64,7 +64,7 @@ fn with_other(sum: u64, other: &Option<Box<Command>>) -> u64
 #[cycle(counting)]
 #[tactic(auto, using(dh_tree::proofs::SeenActions::actions_are))]
 fn with_parts(sum: u64, parts: &[Vec<Command>]) -> u64
-    ensures { result ≡ summed sum (groups_unit (all_parts_seen parts.now)) }
+    ensures { result ≡ capped_sum sum (groups_unit (all_parts_seen parts.now)) }
 {
     let mut next = sum;
     for part in parts {

@@ -5,7 +5,7 @@ ghost use Rattle.std.specs.Prelude.{◌≡◌, option_map};
 ghost use Rattle.dh_plan.specs.PlanSizes.{maybe_operators, term_operators, terms_operators};
 ghost use Rattle.dh_tree.specs.Seen.{all_terms_seen, view_plan, term_seen, terms};
 ghost use Rattle.dh_tree.specs.ViewOffsets.{offsets_of};
-ghost use Rattle.dh_size.specs.Summed.{suffix_operators, summed};
+ghost use Rattle.dh_size.specs.Summed.{suffix_operators, capped_sum};
 
 use dh_tree::{Expr, ExprForm, ViewForm};
 
@@ -13,7 +13,7 @@ use dh_tree::{Expr, ExprForm, ViewForm};
 #[cycle(counting_terms)]
 #[tactic(auto, using(dh_tree::proofs::SeenTerms::terms_are))]
 pub fn with_operators(sum: u64, value: &Expr) -> u64
-    ensures { result ≡ summed sum (term_operators (term_seen value.now)) }
+    ensures { result ≡ capped_sum sum (term_operators (term_seen value.now)) }
 {
     match &value.form {
         ExprForm::Number { .. } => sum,
@@ -32,7 +32,7 @@ pub fn with_operators(sum: u64, value: &Expr) -> u64
 /// Those of indices.
 #[cycle(counting_terms)]
 fn with_all_operators(sum: u64, indices: &[Expr]) -> u64
-    ensures { result ≡ summed sum (terms_operators (all_terms_seen indices.now)) }
+    ensures { result ≡ capped_sum sum (terms_operators (all_terms_seen indices.now)) }
 {
     let mut next = sum;
     for index in indices {
@@ -43,7 +43,7 @@ fn with_all_operators(sum: u64, indices: &[Expr]) -> u64
 
 /// Those of a value that may lack.
 pub fn with_value(sum: u64, value: &Option<Expr>) -> u64
-    ensures { result ≡ summed sum (maybe_operators (option_map term_seen value.now)) }
+    ensures { result ≡ capped_sum sum (maybe_operators (option_map term_seen value.now)) }
 {
     match value {
         Some(value) => with_operators(sum, value),
@@ -53,7 +53,7 @@ pub fn with_value(sum: u64, value: &Option<Expr>) -> u64
 
 /// Those of the offsets of a suffix.
 fn with_suffixes(sum: u64, by: &[(u64, Expr)]) -> u64
-    ensures { result ≡ summed sum (suffix_operators by.now) }
+    ensures { result ≡ capped_sum sum (suffix_operators by.now) }
 {
     let mut next = sum;
     for pair in by {
@@ -64,7 +64,7 @@ fn with_suffixes(sum: u64, by: &[(u64, Expr)]) -> u64
 
 /// Those of the offsets of a view.
 pub fn with_offsets(sum: u64, form: &ViewForm) -> u64
-    ensures { result ≡ summed sum (terms_operators (terms (offsets_of (view_plan form.now)))) }
+    ensures { result ≡ capped_sum sum (terms_operators (terms (offsets_of (view_plan form.now)))) }
 {
     match form {
         ViewForm::Shrink { .. } => sum,

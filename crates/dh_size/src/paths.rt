@@ -1,6 +1,6 @@
 //! Copies in unrolled loops, by the numbers of their paths: the copies of the last loop change first.
 
-ghost use Rattle.std.specs.Prelude.{◌≡◌, ◌≤◌, ◌+◌, ◌%◌, ◌<◌, ◌^◌, Some, pos, ◌+ℤ◌, unsigned_abs};
+ghost use Rattle.std.specs.Prelude.{◌≡◌, ◌≤◌, ◌+◌, ◌%◌, ◌<◌, Some};
 ghost use Rattle.std.specs.List.{AllByRecursion};
 ghost use Rattle.dh_tree.specs.Elements.{banks_of};
 ghost use Rattle.dh_tree.specs.Shapes.{most_banks, IsDim};
@@ -10,6 +10,7 @@ ghost use Rattle.dh_ports.specs.Banks.{copy_of, path_of_number};
 ghost use Rattle.dh_ports.specs.Copies.{copies_round};
 ghost use Rattle.dh_size.specs.NumberedPaths.{index_numbered, indexed_bank};
 
+use dh_ports::residue_of_copy;
 use dh_shape::{IndexKind, classify};
 use dh_tree::{Counter, Dim, Expr, Typed};
 
@@ -41,30 +42,6 @@ fn copy_at(loops: &[Counter], copies: u64, number: u64, iterator: u32) -> u64
     0
 }
 
-/// The size of a number with an offset added.
-fn size_of(number: u128, offset: i128) -> u128
-    requires few { number < 2 ^ 66 }
-    ensures { result ≡ unsigned_abs (pos number +ℤ offset) }
-{
-    let size = offset.unsigned_abs();
-    if offset >= 0 {
-        number + size
-    } else if size <= number {
-        number - size
-    } else {
-        size - number
-    }
-}
-
-/// A number with a copy and an offset added, its size modulo a number of banks.
-fn residue_of(low: u64, copy: u64, offset: i128, banks: u64) -> u64
-    requires banks { 1 ≤ banks }
-    ensures { result ≡ unsigned_abs (pos (low + copy) +ℤ offset) % banks }
-{
-    let size = size_of(u128::from(low) + u128::from(copy), offset);
-    (size % u128::from(banks)) as u64
-}
-
 /// Which of so many banks of a dimension an index tells at the path of a number.
 fn residue_at(
     typed: &Typed,
@@ -80,15 +57,15 @@ fn residue_at(
     ensures { result ≡ index_numbered typed.now loops.now number index.now % banks }
 {
     match classify(typed, index) {
-        IndexKind::Constant(value) => residue_of(0, 0, value, banks),
+        IndexKind::Constant(value) => residue_of_copy(0, value, 0, banks),
         IndexKind::Iterator { entity, offset } => match typed.counter(entity) {
             Some(counter) => {
                 let copy = copy_at(loops, copies, number, entity);
-                residue_of(counter.low, copy, offset, banks)
+                residue_of_copy(counter.low, offset, copy, banks)
             }
             None => 0,
         },
-        IndexKind::Dynamic => residue_of(0, 0, 0, banks),
+        IndexKind::Dynamic => residue_of_copy(0, 0, 0, banks),
     }
 }
 

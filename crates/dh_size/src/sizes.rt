@@ -10,9 +10,9 @@ ghost use Rattle.dh_events.specs.Accesses.{loops_listed};
 ghost use Rattle.dh_events.specs.Noted.{all_seen};
 ghost use Rattle.dh_lengths.specs.SharedReads.{told, TellsShares};
 ghost use Rattle.dh_plan.specs.PlanSizes.{size_reported};
-ghost use Rattle.dh_size.specs.Led.{AreViews};
-ghost use Rattle.dh_size.specs.Sizes.{event_sizes, AreFew};
-ghost use Rattle.dh_size.specs.Summed.{summed};
+ghost use Rattle.dh_size.specs.Led.{AreProgramViews};
+ghost use Rattle.dh_size.specs.Sizes.{event_sizes, EventsHaveFewCopies};
+ghost use Rattle.dh_size.specs.Summed.{capped_sum};
 
 use crate::banks::access_size;
 use crate::commands::with_command;
@@ -50,9 +50,9 @@ fn access_sizes(
     events: &[Event<'_>],
 ) -> Result<u64, NoMemory>
     requires table { IsProgramTable (table_of (program_seen typed.now)) }
-    requires views { AreViews (program_seen typed.now) views }
-    requires few { AreFew (loops_listed rounds.now) (all_seen events.now) }
-    ensures { IfOk result (λ size. size ≡ summed 0 (event_sizes typed.now rounds.now shares.now
+    requires views { AreProgramViews (program_seen typed.now) views }
+    requires few { EventsHaveFewCopies (loops_listed rounds.now) (all_seen events.now) }
+    ensures { IfOk result (λ size. size ≡ capped_sum 0 (event_sizes typed.now rounds.now shares.now
         events.now)) }
 {
     let mut sum: u64 = 0;

@@ -8,7 +8,7 @@ use Rattle.dh_sound.specs.BlocksOfPhases.{TellsBlocks}
 use Rattle.dh_sound.specs.BlockTold.{AccessesDeclared}
 use Rattle.dh_sound.specs.IndexRules.{KeepsIndexRules}
 use Rattle.dh_sound.specs.IndexValues.{IsTypedProgram}
-use Rattle.dh_sound.specs.KeptPorts.{IsTold}
+use Rattle.dh_sound.specs.KeptPorts.{HasSoundnessBasis}
 use Rattle.dh_sound.proofs.BlocksTold.{blocks_told}
 use Rattle.dh_sound.proofs.PortsKept.{typed_program, blocks_covered}
 use Rattle.dh_sound.proofs.SortsOfPrograms.{accesses_declared, assigns_inside}
@@ -31,7 +31,7 @@ module _ (p : Program) (ready : IsReady p) where
   checked_covered = blocks_covered p ready keeps_rules declared_here tells_blocks
 
 -- a program that the passes accept is told
-pub accepted_is_told : (p : Program) → IsAccepted p → IsTold p
+pub accepted_is_told : (p : Program) → IsAccepted p → HasSoundnessBasis p
 accepted_is_told p a = record {
   ready = a.ready;
   rules = keeps_rules p a.ready;

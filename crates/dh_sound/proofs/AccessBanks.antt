@@ -22,7 +22,7 @@ use Rattle.dh_meaning.specs.CoreOf.{dims_by}
 use Rattle.dh_meaning.specs.Paths.{Path}
 use Rattle.dh_meaning.specs.Ways.{Way, way_to}
 use Rattle.dh_meets.specs.SourceEvents.{SourceAccess, accesses_in, trace}
-use Rattle.dh_sound.specs.IndexValues.{HasCopy, IsByIndices, IsTypedProgram, IsAccess, IsMade, IsReached, element_breaches, target_of}
+use Rattle.dh_sound.specs.IndexValues.{HasCopy, IsByIndices, IsTypedProgram, IsLegalAccess, IsMadeAccess, IsReached, element_breaches, target_of}
 use Rattle.dh_sound.specs.IndexRules.{KeepsIndexRules}
 use Rattle.dh_sound.proofs.BanksReached.{first_none, second_none}
 use Rattle.dh_sound.proofs.BanksThrough.{ThroughTold, access_reaches, access_through}
@@ -101,7 +101,7 @@ pub record Kept (p : Program) (a : SourceAccess) (memory : Memory) (o : Option W
   pub keeps : element_breaches (counters_of p) (dims_by memory.shape.dims o) a.element ≡ []
   pub through : (w : Way) → o ≡ Some w → IsByIndices a.element
 
-pub kept_access : (p : Program) (b : Begun) (path : Path) (v : Variables) (k : ℕ) (a : SourceAccess) (r : Reach) → KeepsIndexRules p → slice_get (accesses_in (trace p)) k ≡ Some a → (made : IsMade p b path v a r) → (o : Option Way) → way_to p a.entity ≡ o → Kept p a made.memory o
+pub kept_access : (p : Program) (b : Begun) (path : Path) (v : Variables) (k : ℕ) (a : SourceAccess) (r : Reach) → KeepsIndexRules p → slice_get (accesses_in (trace p)) k ≡ Some a → (made : IsMadeAccess p b path v a r) → (o : Option Way) → way_to p a.entity ≡ o → Kept p a made.memory o
 kept_access p b path v k a r rules at made None none =
     let here : memory_in (memories_of p) a.entity ≡ Some made.memory = ap (memory_in (memories_of p)) (itself p a.entity made.entity none made.is) ∙ made.declared in
     let keeps = access_keeps p rules.indices rules.views k a at made.memory here in
@@ -114,7 +114,7 @@ kept_access p b path v k a r rules at made (Some w) is =
     let keeps = keeps_through p rules.indices rules.views k a at w is in
     record { dims = lead.own.own.dims; keeps = keeps.none; through = λ y e. keeps.indices }
 
-abbrev pub access_of : (p : Program) (b : Begun) (path : Path) (v : Variables) (k : ℕ) (a : SourceAccess) (n : ℕ) (r : Reach) → IsTypedProgram p → KeepsIndexRules p → slice_get (accesses_in (trace p)) k ≡ Some a → IsMade p b path v a r → IsAccess p b path v a n r
+abbrev pub access_of : (p : Program) (b : Begun) (path : Path) (v : Variables) (k : ℕ) (a : SourceAccess) (n : ℕ) (r : Reach) → IsTypedProgram p → KeepsIndexRules p → slice_get (accesses_in (trace p)) k ≡ Some a → IsMadeAccess p b path v a r → IsLegalAccess p b path v a n r
 access_of p b path v k a n r typed rules at made =
     let kept = kept_access p b path v k a r rules at made (way_to p a.entity) refl in
     record {
@@ -134,10 +134,10 @@ access_of p b path v k a n r typed rules at made =
     }
 
 -- the element that an access reaches in a run lies in a bank that the rules take it to reach at its path
-pub bank_told : (p : Program) (b : Begun) (path : Path) (v : Variables) (k : ℕ) (a : SourceAccess) (n : ℕ) (r : Reach) (s : Spot) → IsTypedProgram p → KeepsIndexRules p → slice_get (accesses_in (trace p)) k ≡ Some a → (made : IsMade p b path v a r) → spot_reached b v path r (target_of (core.known_of p) n a.entity a.element) ≡ Some s → IsReached p a path made.entity r s
+pub bank_told : (p : Program) (b : Begun) (path : Path) (v : Variables) (k : ℕ) (a : SourceAccess) (n : ℕ) (r : Reach) (s : Spot) → IsTypedProgram p → KeepsIndexRules p → slice_get (accesses_in (trace p)) k ≡ Some a → (made : IsMadeAccess p b path v a r) → spot_reached b v path r (target_of (core.known_of p) n a.entity a.element) ≡ Some s → IsReached p a path made.entity r s
 bank_told p b path v k a n r s typed rules at made e = access_reaches p b path v a n r s (access_of p b path v k a n r typed rules at made) e
 
 -- and through views to an element through the indices of each
-pub bank_through : (p : Program) (b : Begun) (path : Path) (v : Variables) (k : ℕ) (a : SourceAccess) (n : ℕ) (r : Reach) (s : Spot) → IsTypedProgram p → KeepsIndexRules p → slice_get (accesses_in (trace p)) k ≡ Some a → (made : IsMade p b path v a r)
+pub bank_through : (p : Program) (b : Begun) (path : Path) (v : Variables) (k : ℕ) (a : SourceAccess) (n : ℕ) (r : Reach) (s : Spot) → IsTypedProgram p → KeepsIndexRules p → slice_get (accesses_in (trace p)) k ≡ Some a → (made : IsMadeAccess p b path v a r)
     → (w : Way) (is : way_to p a.entity ≡ Some w) → spot_reached b v path r (target_of (core.known_of p) n a.entity a.element) ≡ Some s → ThroughTold p b path v a w (made.leads w is).memory.shape.dims s
 bank_through p b path v k a n r s typed rules at made w is e = access_through p b path v a n r s (access_of p b path v k a n r typed rules at made) w is e

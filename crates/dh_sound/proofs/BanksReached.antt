@@ -35,7 +35,7 @@ use Rattle.dh_meaning.specs.Effects.{Begun, Variables, is_inside, is_row, spot_b
 use Rattle.dh_meaning.specs.Paths.{Path}
 use Rattle.dh_meets.specs.Charges.{level_of_loop, index_in, indices_in, bank_reached, reaches_in}
 use Rattle.dh_meets.specs.SourceEvents.{Element, with_indices, in_row, SourceAccess}
-use Rattle.dh_sound.specs.IndexValues.{AllHaveIndexKinds, copy_at, AllInTurn, IsUnrolled, IsIndexValue, HasCopy, HasElementKinds, ElementInTurn, element_breaches, IsAccess, IsReached}
+use Rattle.dh_sound.specs.IndexValues.{AllHaveIndexKinds, copy_at, AllInTurn, IsUnrolledLoop, IsIndexValue, HasCopy, HasElementKinds, ElementInTurn, element_breaches, IsLegalAccess, IsReached}
 use Rattle.dh_sound.proofs.ValuesOfIndices.{index_value}
 use Rattle.dh_meets.specs.Charges.{reaches_by}
 use Rattle.dh_meaning.specs.Ways.{Way, base_of, way_to}
@@ -124,7 +124,7 @@ AtLeastOne (iterator c offset) = HasCopy c
 AtLeastOne dynamic = Unit {0}
 
 -- the residue of an index that breaks no rule is that of the rules
-pub index_bank : (loops : List Counter) (path : Path) (d : Dim) (place : Place) (k : IndexKind) (z : ℤ) → IsDim d → AtLeastOne k → one_index_breaches d place k ≡ [] → IsIndexValue IsUnrolled loops path k z → unsigned_abs z % d.banks ≡ index_in loops path k % d.banks
+pub index_bank : (loops : List Counter) (path : Path) (d : Dim) (place : Place) (k : IndexKind) (z : ℤ) → IsDim d → AtLeastOne k → one_index_breaches d place k ≡ [] → IsIndexValue IsUnrolledLoop loops path k z → unsigned_abs z % d.banks ≡ index_in loops path k % d.banks
 index_bank loops path d place (constant w) z h a e v = ap (λ x. unsigned_abs x % d.banks) v
 index_bank loops path d place dynamic z h a e v = mod_one _ _ d.banks (one_bank d.banks h.banks (not_so (nat_lt 1 d.banks) (breach DynamicBank place) e))
 index_bank loops path d place (iterator c offset) z h a e v = by (nat_lt 1 d.banks) refl (not_so _ (breach BankUnroll place) e)
@@ -231,7 +231,7 @@ module _ (b : Begun) (v : Variables) (path : Path) (known : Known) (cs loops : L
   bank_of_indices n (d ∷ ds) no_terms h k t e = refl
   bank_of_indices n (d ∷ ds) (term_then (term place kind form) ts) h k t e =
       let z : ℤ = words.value_of (value_of_term b v path (core_term known n (term place kind form))) in
-      let first = index_bank loops path d place (index_kind cs kind form) z h.0 (index_copy cs kind form copies) (first_none (one_index_breaches d place (index_kind cs kind form)) _ e) (index_value IsUnrolled b v path known cs loops n (term place kind form) k.0 t.0) in
+      let first = index_bank loops path d place (index_kind cs kind form) z h.0 (index_copy cs kind form copies) (first_none (one_index_breaches d place (index_kind cs kind form)) _ e) (index_value IsUnrolledLoop b v path known cs loops n (term place kind form) k.0 t.0) in
       let rest = bank_of_indices (n + term_accesses (term place kind form)) ds ts h.1 k.1 t.1 (second_none (one_index_breaches d place (index_kind cs kind form)) _ e) in
       ap (λ x. x * banks_of ds + bank_of ds (map unsigned_abs (values_of b v path (core_terms known (n + term_accesses (term place kind form)) ts)))) first
       ∙ ap (λ x. (index_in loops path (index_kind cs kind form) % d.banks) * banks_of ds + x) rest
@@ -301,7 +301,7 @@ reached_is cs dims a path (with_indices indices) = refl
 reached_is cs dims a path (in_row bank row) = refl
 
 -- the element of a memory that an access reaches lies in a bank that the rules take it to reach at its path
-pub itself_reaches : (p : Program) (b : Begun) (path : Path) (v : Variables) (a : SourceAccess) (n : ℕ) (r : Reach) (s : Spot) (h : IsAccess p b path v a n r) → way_to p a.entity ≡ None
+pub itself_reaches : (p : Program) (b : Begun) (path : Path) (v : Variables) (a : SourceAccess) (n : ℕ) (r : Reach) (s : Spot) (h : IsLegalAccess p b path v a n r) → way_to p a.entity ≡ None
     → spot_reached b v path r (own_target (known_of p) n a.element) ≡ Some s → IsReached p a path h.entity r s
 itself_reaches p b path v a n r s h none f =
     let is : a.entity ≡ Some h.entity = itself p a.entity h.entity none h.is in

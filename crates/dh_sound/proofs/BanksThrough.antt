@@ -24,7 +24,7 @@ use Rattle.dh_ways.specs.Leading.{LeadsTo, next_dims}
 use Rattle.dh_ways.specs.SpotsThrough.{offsets_at}
 use Rattle.dh_ways.proofs.TargetsOnWays.{target_is}
 use Rattle.dh_carried.proofs.WaysReached.{ways_reach}
-use Rattle.dh_sound.specs.IndexValues.{AllHaveIndexKinds, AllInTurn, ElementInTurn, HasElementKinds, IsAccess, IsByIndices, IsReached, element_breaches, target_of}
+use Rattle.dh_sound.specs.IndexValues.{AllHaveIndexKinds, AllInTurn, ElementInTurn, HasElementKinds, IsLegalAccess, IsByIndices, IsReached, element_breaches, target_of}
 use Rattle.dh_sound.proofs.BanksReached.{bank_of_indices, declared_dims, itself_reaches, own_target, spot_indices}
 
 -- Spots.
@@ -65,7 +65,7 @@ pub record ThroughTold (p : Program) (b : Begun) (path : Path) (v : Variables) (
   pub bank : s.bank ≡ bank_at dims last
   pub named : bank_at (next_dims w.steps dims) indices ≡ bank_named p w a path
 
-module _ (p : Program) (b : Begun) (path : Path) (v : Variables) (a : SourceAccess) (n : ℕ) (r : Reach) (s : Spot) (h : IsAccess p b path v a n r) where
+module _ (p : Program) (b : Begun) (path : Path) (v : Variables) (a : SourceAccess) (n : ℕ) (r : Reach) (s : Spot) (h : IsLegalAccess p b path v a n r) where
   module _ (w : Way) (is : way_to p a.entity ≡ Some w) (ts : Terms) (same : a.element ≡ with_indices ts) (f : spot_reached b v path r (target_to (Some w) (core_terms (known_of p) n ts)) ≡ Some s) where
     abbrev lead : LeadsTo (memories_of p) w
     lead = h.leads w is

@@ -22,7 +22,7 @@ use Rattle.dh_tree.specs.Resolved.{resolved_action, resolved_form, resolved_othe
 use Rattle.dh_tree.specs.Scopes.{entity_of, is_visible, Scope, entity, declare, leave, past, at_end, form_at_end, other_at_end, actions_at_end, groups_at_end, items_of, first_scope, body_scope, last_scope}
 use Rattle.dh_tree.proofs.EmptyLists.{first_none, second_none, not_none}
 use Rattle.dh_meaning.specs.CoreOf.{entity_number}
-use Rattle.dh_sound.specs.IteratorsKept.{IsOther, NamesOther, also, Leaves, FormLeaves, OtherLeaves, GroupsLeave, PartLeaves, LeavesIterators, FoldsElsewhere, FormFoldsElsewhere, OtherFoldsElsewhere, GroupsFoldElsewhere, PartFoldsElsewhere, KeepsItsNames}
+use Rattle.dh_sound.specs.IteratorsKept.{IsOther, NamesOther, also, ActionLeaves, FormLeaves, OtherLeaves, GroupsLeave, PartLeaves, LeavesIterators, FoldsElsewhere, FormFoldsElsewhere, OtherFoldsElsewhere, GroupsFoldElsewhere, PartFoldsElsewhere, KeepsItsNames}
 
 -- Entities that go on.
 
@@ -171,7 +171,7 @@ module _ (es : List Entity) where
 
   mutual
     leaves : (a : Action) (s : Scope) (c : Context) (is : List ℕ) → resolved_action s a ≡ a → breaches s a ≡ [] → action_placement_breaches es c a ≡ []
-        → FoldsElsewhere es a → GoesOn (at_end s a).entities es → AreRound (length s.entities) is → Leaves (length es) is a
+        → FoldsElsewhere es a → GoesOn (at_end s a).entities es → AreRound (length s.entities) is → ActionLeaves (length es) is a
     leaves (action id place form) s c is e n p f on round =
         let same : resolved_form s form ≡ form = cc in form_leaves form s c place is same n p f on round
 

@@ -17,7 +17,7 @@ use Rattle.dh_meaning.specs.Core.{CoreProgram}
 use Rattle.dh_meaning.specs.Effects.{Variables, block_run, Event, reads, writes, faults, is_at, rows_read, writes_made, spent, spends_beyond, stop_after}
 use Rattle.dh_meaning.specs.Runs as run
 use Rattle.dh_meaning.specs.Runs.{RunState, step_effect, state_after, step_from, run_state}
-use Rattle.dh_sound.specs.Standing.{KeepsIterators, IsStanding, StepsKeepPorts, BlocksKeepPorts}
+use Rattle.dh_sound.specs.Standing.{KeepsIterators, IsPlaceInTurn, StepsKeepPorts, BlocksKeepPorts}
 use Rattle.dh_sound.proofs.Standing.{run_stands}
 use Rattle.dh_carried.proofs.Pigeons.{no_longer, has_left, unique_has, has_unique, unique_once}
 
@@ -147,7 +147,7 @@ pub steps_keep_ports : (c : CoreProgram) → KeepsIterators c → BlocksKeepPort
 steps_keep_ports c is keep memories n going memory bank =
     by (run_state c memories n).place (run_state c memories n).variables (run_state c memories n).memories (run_stands c is memories n)
   where
-    by : (place : run.RunPlace) (variables : Variables) (contents : List (List ℕ)) → IsStanding c place variables
+    by : (place : run.RunPlace) (variables : Variables) (contents : List (List ℕ)) → IsPlaceInTurn c place variables
         → spent (run.place_run (record { table = c.table; memories = contents }) place (record { variables = variables; events = [] })).events memory bank
         ≤ ports_at c.table memory
     by run.ended variables contents s = no_more (ports_at c.table memory)

@@ -17,8 +17,8 @@ use Rattle.dh_meaning.specs.CoreOf.{Known, known_of, entity_number, store_to, co
 use Rattle.dh_meaning.specs.Effects.{commands, tests}
 use Rattle.dh_meaning.specs.Levels.{assigns_to, any_assigns}
 use Rattle.dh_sound.specs.Blocks.{StandsIn, StandsInPhase}
-use Rattle.dh_sound.specs.Standing.{Spares, IsFresh, AreApart, IsApart, KeepsIterators}
-use Rattle.dh_sound.specs.IteratorsKept.{IsOther, also, Leaves, FormLeaves, OtherLeaves, GroupsLeave, PartLeaves, LeavesIterators}
+use Rattle.dh_sound.specs.Standing.{Spares, IsFresh, PhasesAreApart, IsApart, KeepsIterators}
+use Rattle.dh_sound.specs.IteratorsKept.{IsOther, also, ActionLeaves, FormLeaves, OtherLeaves, GroupsLeave, PartLeaves, LeavesIterators}
 use Rattle.dh_carried.proofs.Pigeons.{Has}
 use Rattle.dh_sound.proofs.PhasesHold.{Facts, AllHold, PhaseHolds, PhasesHold, ListHolds, PartsHold, of_list_hold, both_hold, joined_hold, folded_hold, turn_hold, choice_hold}
 use Rattle.dh_sound.proofs.OwnVariables.{hidden_behind}
@@ -51,7 +51,7 @@ module _ (ground : ℕ) where
 
   -- each command leaves the iterators round it, and each loop has another
   abbrev keeps_iterators : Facts
-  keeps_iterators = record { round = List ℕ; does = λ is a. Leaves ground is a; turns_so = λ is form. IsOther (iterator_of form) is; inside = λ is form. is ++ iterator_of form ∷ [] }
+  keeps_iterators = record { round = List ℕ; does = λ is a. ActionLeaves ground is a; turns_so = λ is form. IsOther (iterator_of form) is; inside = λ is form. is ++ iterator_of form ∷ [] }
 
   abbrev AllLeave : (iterators : List ℕ) → List Located → Type 0
   AllLeave is cs = AllHold keeps_iterators is cs
@@ -69,7 +69,7 @@ module _ (ground : ℕ) where
   PartsLeave is parts = PartsHold keeps_iterators is parts
 
   mutual
-    pub phases_leave : (a : Action) (is : List ℕ) (r : Around) (n : ℕ) → Leaves ground is a → ListLeaves is (phases r n a)
+    pub phases_leave : (a : Action) (is : List ℕ) (r : Around) (n : ℕ) → ActionLeaves ground is a → ListLeaves is (phases r n a)
     phases_leave (action id place form) is r n h = form_leaves form is r n id place h
 
     form_leaves : (form : ActionForm) (is : List ℕ) (r : Around) (n id : ℕ) (place : Place) → FormLeaves ground is form → ListLeaves is (form_phases r n id place form)
@@ -146,7 +146,7 @@ module _ (ground : ℕ) where
 
     module _ (is : List ℕ) (has : Has m is) where
       mutual
-        spared : (a : Action) (n : ℕ) (rest : CoreCommands) → Leaves ground is a → any_assigns m rest ≡ false → any_assigns m (core_action known n a rest) ≡ false
+        spared : (a : Action) (n : ℕ) (rest : CoreCommands) → ActionLeaves ground is a → any_assigns m rest ≡ false → any_assigns m (core_action known n a rest) ≡ false
         spared (action id place form) n rest h e = form_spared form n rest h e
 
         form_spared : (form : ActionForm) (n : ℕ) (rest : CoreCommands) → FormLeaves ground is form → any_assigns m rest ≡ false → any_assigns m (core_action_form known n form rest) ≡ false
@@ -264,7 +264,7 @@ module _ (ground : ℕ) where
       phase_apart (repeated loop body) round h = phases_apart body round h
       phase_apart (decided choice chosen other) round h = (phases_apart chosen round h.0, phases_apart other round h.1)
 
-      phases_apart : (ps : Phases) (round : List Turning) → PhasesLeave (iterators round) ps → AreApart round (core_phases known ps)
+      phases_apart : (ps : Phases) (round : List Turning) → PhasesLeave (iterators round) ps → PhasesAreApart round (core_phases known ps)
       phases_apart no_phases round h = tt
       phases_apart (phase p ps) round h = (phase_apart p round h.0, phases_apart ps round h.1)
 

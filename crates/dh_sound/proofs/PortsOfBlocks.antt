@@ -29,7 +29,7 @@ use Rattle.dh_meets.specs.SourceEvents.{Element, with_indices, in_row, SourceAcc
 use Rattle.dh_sound.specs.Blocks.{factors, paths_inside}
 use Rattle.dh_sound.specs.BlocksCovered.{AreCovered}
 use Rattle.dh_sound.specs.BlockTold.{IsOfMemory, AccessesDeclared, IndicesTold}
-use Rattle.dh_sound.specs.IndexValues.{IsTypedProgram, IsMade, target_of}
+use Rattle.dh_sound.specs.IndexValues.{IsTypedProgram, IsMadeAccess, target_of}
 use Rattle.dh_sound.specs.SameKeys.{IsNearTo}
 use Rattle.dh_tree.specs.declared.trees.counters.Counter.{Counter}
 use Rattle.dh_sound.specs.IndexRules.{KeepsIndexRules}
@@ -197,7 +197,7 @@ module _ (p : Program) (typed : IsTypedProgram p) (rules : KeepsIndexRules p) (d
       → source_spot b (known_of p) u path a.entity a.element ≡ Some s → Leads k a path s u
   leads_to k a path s u listed inside at near leads =
       let m = declared k a listed in
-      let made : IsMade p b path u a (reach_of k a) = record { entity = m.entity; is = m.is; memory = m.memory; declared = m.declared; leads = lead_all a.entity; table = table; number = refl; turns = indices.turns k a path u inside listed at near } in
+      let made : IsMadeAccess p b path u a (reach_of k a) = record { entity = m.entity; is = m.is; memory = m.memory; declared = m.declared; leads = lead_all a.entity; table = table; number = refl; turns = indices.turns k a path u inside listed at near } in
       let spot = sym (found_spot u path k a a.element) ∙ leads in
       let told = bank_told p b path u k a 0 (reach_of k a) s typed rules listed made spot in
       record { of = m; memory = told.memory; bank = told.bank; through = λ w is. bank_through p b path u k a 0 (reach_of k a) s typed rules listed made w is spot }

@@ -13,14 +13,14 @@ use Rattle.dh_meaning.specs.Core.{CoreTerm, Turning, CorePhase, straightly, turn
 use Rattle.dh_meaning.specs.Effects.{Begun, Variables, unset, Effect, Block, commands, tests, block_run, stop_after}
 use Rattle.dh_meaning.specs.Runs.{inner_paths, turn_begun, begins, RunTodo, over, phases_then, turn_then, test_then, again_then, pick_then, RunPlace, ended, at, RunNext, next, enter, enter_phase, goes_on, next_of, place_run, place_after, RunState, step_effect, begun_at, state_after, step_from, next_state, run_state}
 use Rattle.dh_sound.specs.Blocks.{StandsIn, StandsInPhase, paths_inside, AreInTurn}
-use Rattle.dh_sound.specs.Standing.{IsFresh, AreApart, IsApart, KeepsIterators, IsStanding}
+use Rattle.dh_sound.specs.Standing.{IsFresh, PhasesAreApart, IsApart, KeepsIterators, IsPlaceInTurn}
 use Rattle.dh_sound.proofs.Entered.{inner_inside, turn_more, outer_turns, test_keeps, commands_keep, turns_kept, Kept}
 
 -- these phases of the program stand in these loops, and are done at these paths
 record Within (c : CoreProgram) (loops : List Turning) (paths : List Path) (ps : CorePhases) : Type 0 where
   copies : paths ≡ paths_inside loops
   part : (inner : List Turning) (b : Block) → StandsIn loops ps inner b → StandsIn [] c.phases inner b
-  apart : AreApart loops ps
+  apart : PhasesAreApart loops ps
 
 -- this phase does
 record IsWithin (c : CoreProgram) (loops : List Turning) (paths : List Path) (p : CorePhase) : Type 0 where
@@ -213,11 +213,11 @@ module _ (c : CoreProgram) where
     every_place memories (suc n) = next_place c.table (run_state c memories n) (every_place memories n)
 
 -- what is told of where a run stands
-told : (c : CoreProgram) (place : RunPlace) (variables : Variables) → StandsAt c place variables → IsStanding c place variables
+told : (c : CoreProgram) (place : RunPlace) (variables : Variables) → StandsAt c place variables → IsPlaceInTurn c place variables
 told c ended variables s = tt
 told c (at paths b k) variables s = record { loops = s.loops; block = s.block; copies = s.copies; turns = s.turns }
 
 -- a run stands at its end, or at a block of the program, at the paths inside the loops round it, each of which is
 -- in a turn
-pub run_stands : (c : CoreProgram) → KeepsIterators c → (memories : List (List ℕ)) (n : ℕ) → IsStanding c (run_state c memories n).place (run_state c memories n).variables
+pub run_stands : (c : CoreProgram) → KeepsIterators c → (memories : List (List ℕ)) (n : ℕ) → IsPlaceInTurn c (run_state c memories n).place (run_state c memories n).variables
 run_stands c is memories n = told c _ _ (every_place c is memories n)

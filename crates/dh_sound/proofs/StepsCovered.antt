@@ -13,7 +13,7 @@ use Rattle.dh_meaning.specs.Runs.{run_state}
 use Rattle.dh_meets.specs.MayMeet.{meets_in}
 use Rattle.dh_meets.specs.Ports.{KeepsPorts}
 use Rattle.dh_sound.specs.BlocksCovered.{AreCovered}
-use Rattle.dh_sound.specs.Standing.{IsStanding}
+use Rattle.dh_sound.specs.Standing.{IsPlaceInTurn}
 use Rattle.dh_sound.specs.StepsCovered.{StepsCovered, StepsKept}
 use Rattle.dh_sound.proofs.AcceptedPrograms.{checked_covered}
 use Rattle.dh_sound.proofs.ReadyKeeps.{ready_keeps}
@@ -35,7 +35,7 @@ steps_covered p ready memories n going entity memory bank known =
     by (run_state (core_of p) memories n).place (run_state (core_of p) memories n).variables (run_state (core_of p) memories n).memories
     (run_stands (core_of p) (ready_keeps p ready) memories n)
   where
-    by : (place : run.RunPlace) (variables : Variables) (contents : List (List ℕ)) → IsStanding (core_of p) place variables
+    by : (place : run.RunPlace) (variables : Variables) (contents : List (List ℕ)) → IsPlaceInTurn (core_of p) place variables
         → AreCovered p (run.place_run (record { table = table_of p; memories = contents }) place (record { variables = variables; events = [] })).events entity memory bank
     by run.ended variables contents s = none_covered p entity memory bank
     by (run.at paths b k) variables contents s =

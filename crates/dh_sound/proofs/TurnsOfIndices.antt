@@ -24,7 +24,7 @@ use Rattle.dh_meaning.specs.Runs.{last_copy}
 use Rattle.dh_meets.specs.Charges.{level_of_loop}
 use Rattle.dh_meets.specs.SourceEvents.{Element, with_indices, in_row, SourceAccess}
 use Rattle.dh_sound.specs.Blocks.{factors, paths_inside, StandsIn, AreInTurn}
-use Rattle.dh_sound.specs.IndexValues.{copy_at, IsInTurn, name_value, IsUnrolled, NameInTurn, OperandInTurn, FormInTurn, AllInTurn, ElementInTurn}
+use Rattle.dh_sound.specs.IndexValues.{copy_at, IsInTurn, name_value, IsUnrolledLoop, NameInTurn, OperandInTurn, FormInTurn, AllInTurn, ElementInTurn}
 use Rattle.dh_sound.specs.IteratorsAt.{HaveDepths, TurnsAt}
 use Rattle.dh_sound.specs.LoopsMatch.{unrolled_loops, LoopMatches, EachMatches, LoopsMatch, AreSpared, LoopInTurn}
 use Rattle.dh_sound.specs.LoopsRound.{EntityRound, OperandRound, FormRound, AllRound, ElementRound}
@@ -88,7 +88,7 @@ module _ (known : Known) (v0 : Variables) (touched : ℕ → Bool) (path : Path)
 module _ (known : Known) (cs round : List Counter) (v0 v : Variables) (touched : ℕ → Bool) (path : Path) (near : IsNearTo v0 touched v)
     (found : (level : ℕ) (c : Counter) → slice_get round level ≡ Some c → LoopInTurn known v0 touched path level c) where
   -- a name of the iterator of a loop that is found
-  turned : (r : Ref) (c : Counter) → r.entity ≡ c.entity → IsUnrolled c → LoopInTurn known v0 touched path (level_of_loop round c.entity) c
+  turned : (r : Ref) (c : Counter) → r.entity ≡ c.entity → IsUnrolledLoop c → LoopInTurn known v0 touched path (level_of_loop round c.entity) c
       → IsInTurn round path c (name_value known v path r)
   turned r c same u l = record {
     turn = l.turn;
@@ -117,10 +117,10 @@ module _ (known : Known) (cs round : List Counter) (v0 v : Variables) (touched :
       some : 1 ≤ c.factor
       some = some_copy c.factor u
 
-  name_in_turn : (r : Ref) → EntityRound cs round r.entity → NameInTurn IsUnrolled known cs round path v r
+  name_in_turn : (r : Ref) → EntityRound cs round r.entity → NameInTurn IsUnrolledLoop known cs round path v r
   name_in_turn r h c f u = turned r c (sym (counter_entity cs r.entity c f)) u (found (level_of_loop round c.entity) c (h c f u))
 
-  operand_in_turn : (f : TermForm) → OperandRound cs round f → OperandInTurn IsUnrolled known cs round path v f
+  operand_in_turn : (f : TermForm) → OperandRound cs round f → OperandInTurn IsUnrolledLoop known cs round path v f
   operand_in_turn (number negative n) h = tt
   operand_in_turn (truth_value value) h = tt
   operand_in_turn (named r) h = name_in_turn r h
@@ -129,7 +129,7 @@ module _ (known : Known) (cs round : List Counter) (v0 v : Variables) (touched :
   operand_in_turn (applied o left right) h = tt
   operand_in_turn (converted inner to) h = tt
 
-  form_in_turn : (f : TermForm) → FormRound cs round f → FormInTurn IsUnrolled known cs round path v f
+  form_in_turn : (f : TermForm) → FormRound cs round f → FormInTurn IsUnrolledLoop known cs round path v f
   form_in_turn (number negative n) h = tt
   form_in_turn (truth_value value) h = tt
   form_in_turn (named r) h = name_in_turn r h

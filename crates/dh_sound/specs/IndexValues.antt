@@ -124,8 +124,8 @@ name_value known v path r = v (entity_number r.entity) (take (depth_of known r) 
 abbrev pub AnyLoop : Counter → Type 0
 AnyLoop c = Unit {0}
 
-abbrev pub IsUnrolled : Counter → Type 0
-IsUnrolled c = nat_lt 1 c.factor ≡ true
+abbrev pub IsUnrolledLoop : Counter → Type 0
+IsUnrolledLoop c = nat_lt 1 c.factor ≡ true
 
 -- a name that stands for the iterator of such a loop has a value of a turn of it
 abbrev pub NameInTurn : (Asked : Counter → Type 0) → Known → List Counter → (loops : List Counter) → Path → Variables → Ref → Type 0
@@ -153,7 +153,7 @@ FormInTurn Asked known cs loops path v (converted inner to) = Unit {0}
 
 abbrev pub AllInTurn : Known → List Counter → (loops : List Counter) → Path → Variables → Terms → Type 0
 AllInTurn known cs loops path v no_terms = Unit {0}
-AllInTurn known cs loops path v (term_then t rest) = FormInTurn IsUnrolled known cs loops path v (form_of t) × AllInTurn known cs loops path v rest
+AllInTurn known cs loops path v (term_then t rest) = FormInTurn IsUnrolledLoop known cs loops path v (form_of t) × AllInTurn known cs loops path v rest
 
 -- Values.
 
@@ -202,7 +202,7 @@ abbrev pub HasCopy : Counter → Type 0
 HasCopy c = 1 ≤ c.factor
 
 -- where an access stands in a run: the memory that it is of, and how its element is found there
-pub record IsAccess (p : Program) (b : Begun) (path : Path) (v : Variables) (a : SourceAccess) (n : ℕ) (r : Reach) : Type 0 where
+pub record IsLegalAccess (p : Program) (b : Begun) (path : Path) (v : Variables) (a : SourceAccess) (n : ℕ) (r : Reach) : Type 0 where
   -- the memory of which it is an element, or to which the views lead through which it goes
   pub entity : ℕ
   pub is : base_of (way_to p a.entity) a.entity ≡ Some entity
@@ -223,7 +223,7 @@ pub record IsAccess (p : Program) (b : Begun) (path : Path) (v : Variables) (a :
   pub turns : ElementInTurn (known_of p) (counters_of p) a.site.loops path v a.element
 
 -- the same without what the rules that a program keeps tell: the run's own facts
-pub record IsMade (p : Program) (b : Begun) (path : Path) (v : Variables) (a : SourceAccess) (r : Reach) : Type 0 where
+pub record IsMadeAccess (p : Program) (b : Begun) (path : Path) (v : Variables) (a : SourceAccess) (r : Reach) : Type 0 where
   -- the memory of which it is an element, or to which the views lead through which it goes
   pub entity : ℕ
   pub is : base_of (way_to p a.entity) a.entity ≡ Some entity
@@ -245,4 +245,4 @@ pub record IsReached (p : Program) (a : SourceAccess) (path : Path) (entity : �
 abbrev pub AccessesReachBanks : Program → Type 0
 AccessesReachBanks p =
     (b : Begun) (path : Path) (v : Variables) (k : ℕ) (a : SourceAccess) (n : ℕ) (r : Reach) (s : Spot)
-    → access_at p k ≡ Some a → (made : IsMade p b path v a r) → spot_reached b v path r (target_of (known_of p) n a.entity a.element) ≡ Some s → IsReached p a path made.entity r s
+    → access_at p k ≡ Some a → (made : IsMadeAccess p b path v a r) → spot_reached b v path r (target_of (known_of p) n a.entity a.element) ≡ Some s → IsReached p a path made.entity r s

@@ -24,8 +24,8 @@ abbrev pub also : List ℕ → Ref → List ℕ
 also iterators r = iterators ++ entity_number r.entity ∷ []
 
 abbrev mutual
-  pub Leaves : (ground : ℕ) (iterators : List ℕ) → Action → Type 0
-  Leaves ground is (action id place form) = FormLeaves ground is form
+  pub ActionLeaves : (ground : ℕ) (iterators : List ℕ) → Action → Type 0
+  ActionLeaves ground is (action id place form) = FormLeaves ground is form
 
   pub FormLeaves : (ground : ℕ) (iterators : List ℕ) → ActionForm → Type 0
   FormLeaves ground is (lets name declared value) = NamesOther name is
@@ -36,14 +36,14 @@ abbrev mutual
   FormLeaves ground is (reduces target op value) = NamesOther target is
   FormLeaves ground is (calls function arguments) = Unit {0}
   FormLeaves ground is (blocks body) = GroupsLeave ground is body
-  FormLeaves ground is (decides test chosen other) = Leaves ground is chosen × OtherLeaves ground is other
-  FormLeaves ground is (repeats test body) = Leaves ground is body
+  FormLeaves ground is (decides test chosen other) = ActionLeaves ground is chosen × OtherLeaves ground is other
+  FormLeaves ground is (repeats test body) = ActionLeaves ground is body
   FormLeaves ground is (counts iterator declared low high factor body combine combine_place) =
-      NamesOther iterator is × (Leaves ground (also is iterator) body × OtherLeaves ground (also is iterator) combine)
+      NamesOther iterator is × (ActionLeaves ground (also is iterator) body × OtherLeaves ground (also is iterator) combine)
 
   pub OtherLeaves : (ground : ℕ) (iterators : List ℕ) → MaybeAction → Type 0
   OtherLeaves ground is no_action = Unit {0}
-  OtherLeaves ground is (one_action a) = Leaves ground is a
+  OtherLeaves ground is (one_action a) = ActionLeaves ground is a
 
   pub GroupsLeave : (ground : ℕ) (iterators : List ℕ) → Groups → Type 0
   GroupsLeave ground is no_groups = Unit {0}
@@ -51,11 +51,11 @@ abbrev mutual
 
   pub PartLeaves : (ground : ℕ) (iterators : List ℕ) → Actions → Type 0
   PartLeaves ground is no_actions = Unit {0}
-  PartLeaves ground is (action_then a rest) = Leaves ground is a × PartLeaves ground is rest
+  PartLeaves ground is (action_then a rest) = ActionLeaves ground is a × PartLeaves ground is rest
 
 -- the program does
 abbrev pub LeavesIterators : Program → Type 0
-LeavesIterators p = Leaves (length p.entities) [] p.body
+LeavesIterators p = ActionLeaves (length p.entities) [] p.body
 
 -- What the rules on places say of assignments, said of reducers: none puts anything into an iterator.
 abbrev mutual

@@ -10,11 +10,11 @@ use Rattle.dh_tree.specs.Ready.{IsReady}
 use Rattle.dh_sound.specs.BlockTold.{AccessesDeclared}
 use Rattle.dh_sound.specs.BlocksOfPhases.{TellsBlocks}
 use Rattle.dh_sound.specs.IndexRules.{KeepsIndexRules}
-use Rattle.dh_sound.specs.Standing.{IsStanding}
+use Rattle.dh_sound.specs.Standing.{IsPlaceInTurn}
 
 -- A program of which all is told that soundness rests on. That it is told of each program that the passes accept is a
 -- law (`Accepted` says what they tell).
-pub record IsTold (p : Program) : Type 0 where
+pub record HasSoundnessBasis (p : Program) : Type 0 where
   pub ready : IsReady p
   -- it breaks no rule on indices, in reducers either, and keeps its ports
   pub rules : KeepsIndexRules p
@@ -30,4 +30,4 @@ IsNeverStuck p = (memories : List (List ℕ)) (n memory bank : ℕ) (place : Pla
 
 -- each run of a program stands at a block of it, whose loops are in turns, or is at its end
 abbrev pub StandsAlways : Program → Type 0
-StandsAlways p = (memories : List (List ℕ)) (n : ℕ) → IsStanding (core_of p) (run_state (core_of p) memories n).place (run_state (core_of p) memories n).variables
+StandsAlways p = (memories : List (List ℕ)) (n : ℕ) → IsPlaceInTurn (core_of p) (run_state (core_of p) memories n).place (run_state (core_of p) memories n).variables

@@ -6,7 +6,7 @@ use Rattle.dh_tree.specs.Indices.{form_of}
 use Rattle.dh_tree.specs.PlainTrees.{TermForm, number, truth_value, named, accessed, in_bank, applied, converted, Terms, no_terms, term_then}
 use Rattle.dh_meets.specs.Charges.{level_of_loop}
 use Rattle.dh_meets.specs.SourceEvents.{Element, with_indices, in_row}
-use Rattle.dh_sound.specs.IndexValues.{IsUnrolled}
+use Rattle.dh_sound.specs.IndexValues.{IsUnrolledLoop}
 
 -- a loop stands among these at the level that is found of its iterator
 abbrev pub IsRound : (loops : List Counter) → Counter → Type 0
@@ -14,7 +14,7 @@ IsRound loops c = slice_get loops (level_of_loop loops c.entity) ≡ Some c
 
 -- where an entity is the iterator of an unrolled loop, the loop is one of these
 abbrev pub EntityRound : (cs loops : List Counter) → Option ℕ → Type 0
-EntityRound cs loops entity = (c : Counter) → counter_in cs entity ≡ Some c → IsUnrolled c → IsRound loops c
+EntityRound cs loops entity = (c : Counter) → counter_in cs entity ≡ Some c → IsUnrolledLoop c → IsRound loops c
 
 abbrev pub OperandRound : (cs loops : List Counter) → TermForm → Type 0
 OperandRound cs loops (number negative n) = Unit {0}

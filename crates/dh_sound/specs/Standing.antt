@@ -22,15 +22,15 @@ IsFresh iterator (loop ∷ loops) = (loop.iterator ≡ iterator → ⊥) × IsFr
 
 abbrev mutual
   -- in these phases, which stand in loops, no loop has the iterator of one round it
-  pub AreApart : (round : List Turning) → CorePhases → Type 0
-  AreApart round no_core_phases = Unit {0}
-  AreApart round (phase_and p ps) = IsApart round p × AreApart round ps
+  pub PhasesAreApart : (round : List Turning) → CorePhases → Type 0
+  PhasesAreApart round no_core_phases = Unit {0}
+  PhasesAreApart round (phase_and p ps) = IsApart round p × PhasesAreApart round ps
 
   pub IsApart : (round : List Turning) → CorePhase → Type 0
   IsApart round (straightly cs) = Unit {0}
-  IsApart round (turning loop body) = IsFresh loop.iterator round × AreApart (round ++ loop ∷ []) body
-  IsApart round (looping test body) = AreApart round body
-  IsApart round (choosing test chosen other) = AreApart round chosen × AreApart round other
+  IsApart round (turning loop body) = IsFresh loop.iterator round × PhasesAreApart (round ++ loop ∷ []) body
+  IsApart round (looping test body) = PhasesAreApart round body
+  IsApart round (choosing test chosen other) = PhasesAreApart round chosen × PhasesAreApart round other
 
 -- What a program keeps of its iterators: names are resolved, each `for` declares its own, and nothing may
 -- assign to an iterator.
@@ -38,7 +38,7 @@ pub record KeepsIterators (c : CoreProgram) : Type 0 where
   -- commands assign to the iterator of no loop in which they stand
   pub keeps : (loops : List Turning) (cs : CoreCommands) → StandsIn [] c.phases loops (commands cs) → Spares cs loops
   -- loops that stand one in the other have iterators that differ
-  pub apart : AreApart [] c.phases
+  pub apart : PhasesAreApart [] c.phases
 
 -- a block of the program is done at these paths: it stands in loops, these are the paths inside them, and each
 -- of the loops is in a turn
@@ -49,9 +49,9 @@ pub record StandsInTurn (c : CoreProgram) (paths : List Path) (b : Block) (varia
   pub turns : AreInTurn [] loops variables
 
 -- a run that stands at this place stands so, or is at its end
-abbrev pub IsStanding : CoreProgram → RunPlace → Variables → Type 0
-IsStanding c ended variables = Unit {0}
-IsStanding c (at paths b k) variables = StandsInTurn c paths b variables
+abbrev pub IsPlaceInTurn : CoreProgram → RunPlace → Variables → Type 0
+IsPlaceInTurn c ended variables = Unit {0}
+IsPlaceInTurn c (at paths b k) variables = StandsInTurn c paths b variables
 
 -- in each step that a run does, each bank spends at most its ports
 abbrev pub StepsKeepPorts : CoreProgram → (memories : List (List ℕ)) → Type 0

@@ -11,14 +11,14 @@ use Rattle.dh_meets.specs.Ports.{ports_of_entity}
 use Rattle.dh_sound.specs.BlocksCovered.{AreCovered}
 
 -- the events of the step that a run does after n steps
-abbrev pub step_events : Program → (memories : List (List ℕ)) → (n : ℕ) → List Event
-step_events p memories n = (step_effect (table_of p) (run_state (core_of p) memories n)).events
+abbrev pub run_step_events : Program → (memories : List (List ℕ)) → (n : ℕ) → List Event
+run_step_events p memories n = (step_effect (table_of p) (run_state (core_of p) memories n)).events
 
 -- this holds of each step that a run does, from whatever memories, and of each bank of each memory
 abbrev pub OfEachStep : (P : List Event → (entity memory bank : ℕ) → Type 0) → Program → Type 0
 OfEachStep P p =
     (memories : List (List ℕ)) (n : ℕ) → (run_state (core_of p) memories n).outcome ≡ Going
-    → (entity memory bank : ℕ) → number_in (memories_of p) (Some entity) ≡ Some memory → P (step_events p memories n) entity memory bank
+    → (entity memory bank : ℕ) → number_in (memories_of p) (Some entity) ≡ Some memory → P (run_step_events p memories n) entity memory bank
 
 -- what each step spends is covered
 abbrev pub StepsCovered : Program → Type 0

@@ -54,8 +54,8 @@ KeepsAny [] os = os ≡ []
 KeepsAny (h ∷ hs) os = Unit {0}
 
 -- these, where a view whose way keeps nothing has no offsets
-abbrev pub KeepsOffsets : Known → Ref → ViewPlan → Type 0
-KeepsOffsets known name form = NamesOffsets name form × KeepsAny (hidden_in (way_of known name)) (offsets_of form)
+abbrev pub NamesKeptOffsets : Known → Ref → ViewPlan → Type 0
+NamesKeptOffsets known name form = NamesOffsets name form × KeepsAny (hidden_in (way_of known name)) (offsets_of form)
 
 -- What is asked of a command and of those inside it, where this is asked of each view among them.
 module _ (OfView : Ref → ViewPlan → Type 0) where
@@ -106,16 +106,16 @@ AreNamedActions part = ActionsName NamesOffsets part
 
 -- and a view whose way keeps nothing has no offsets
 abbrev pub IsKeptAction : Known → Action → Type 0
-IsKeptAction known a = ActionNames (KeepsOffsets known) a
+IsKeptAction known a = ActionNames (NamesKeptOffsets known) a
 
 abbrev pub IsKeptForm : Known → ActionForm → Type 0
-IsKeptForm known f = FormNames (KeepsOffsets known) f
+IsKeptForm known f = FormNames (NamesKeptOffsets known) f
 
 abbrev pub IsKeptOther : Known → MaybeAction → Type 0
-IsKeptOther known other = OtherNames (KeepsOffsets known) other
+IsKeptOther known other = OtherNames (NamesKeptOffsets known) other
 
 abbrev pub AreKeptGroups : Known → Groups → Type 0
-AreKeptGroups known gs = GroupsName (KeepsOffsets known) gs
+AreKeptGroups known gs = GroupsName (NamesKeptOffsets known) gs
 
 abbrev pub AreKeptActions : Known → Actions → Type 0
-AreKeptActions known part = ActionsName (KeepsOffsets known) part
+AreKeptActions known part = ActionsName (NamesKeptOffsets known) part

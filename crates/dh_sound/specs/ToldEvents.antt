@@ -26,18 +26,18 @@ abbrev pub keys_from : Program → (memory bank : ℕ) → Option SourceAccess �
 keys_from p memory bank None = []
 keys_from p memory bank (Some a) = keys_reaching p a memory bank
 
-abbrev pub keys_at : Program → (memory bank : ℕ) → ℕ → List (List ℕ)
-keys_at p memory bank n = keys_from p memory bank (access_at p n)
+abbrev pub bank_keys_at : Program → (memory bank : ℕ) → ℕ → List (List ℕ)
+bank_keys_at p memory bank n = keys_from p memory bank (access_at p n)
 
-abbrev pub IsAmong : Event → List Event → Type 0
-IsAmong ev [] = ⊥
-IsAmong ev (e ∷ es) = (ev ≡ e) ⊎ IsAmong ev es
+abbrev pub IsAmongEvents : Event → List Event → Type 0
+IsAmongEvents ev [] = ⊥
+IsAmongEvents ev (e ∷ es) = (ev ≡ e) ⊎ IsAmongEvents ev es
 
 -- a read of an access that shares an earlier one has led where that one led, which was made at the same path
 pub record SharedRead (p : Program) (es : List Event) (n : ℕ) (path : Path) (s : Spot) (earlier : ℕ) : Type 0 where
   pub before : earlier < n
   pub place : Place
-  pub made : IsAmong (reads earlier place path s) es
+  pub made : IsAmongEvents (reads earlier place path s) es
 
 -- the access of an event
 pub record IsOfAccess (p : Program) (n : ℕ) (writing : Bool) : Type 0 where
@@ -47,8 +47,8 @@ pub record IsOfAccess (p : Program) (n : ℕ) (writing : Bool) : Type 0 where
 
 -- What is told of the events that a block makes.
 pub record AreTold (p : Program) (es : List Event) : Type 0 where
-  pub read_of : (n : ℕ) (place : Place) (path : Path) (s : Spot) → IsAmong (reads n place path s) es → IsOfAccess p n false
-  pub write_of : (n : ℕ) (place : Place) (path : Path) (s : Spot) (value : ℕ) → IsAmong (writes n place path s value) es → IsOfAccess p n true
-  pub read_shares : (n : ℕ) (place : Place) (path : Path) (s : Spot) (earlier : ℕ) → IsAmong (reads n place path s) es → shared p n ≡ Some earlier → SharedRead p es n path s earlier
+  pub read_of : (n : ℕ) (place : Place) (path : Path) (s : Spot) → IsAmongEvents (reads n place path s) es → IsOfAccess p n false
+  pub write_of : (n : ℕ) (place : Place) (path : Path) (s : Spot) (value : ℕ) → IsAmongEvents (writes n place path s value) es → IsOfAccess p n true
+  pub read_shares : (n : ℕ) (place : Place) (path : Path) (s : Spot) (earlier : ℕ) → IsAmongEvents (reads n place path s) es → shared p n ≡ Some earlier → SharedRead p es n path s earlier
   -- reads of one access with one key lead to one element
-  pub one_element : (n : ℕ) (place later : Place) (path other : Path) (s t : Spot) → IsAmong (reads n place path s) es → IsAmong (reads n later other t) es → key_at p n path ≡ key_at p n other → s ≡ t
+  pub one_element : (n : ℕ) (place later : Place) (path other : Path) (s t : Spot) → IsAmongEvents (reads n place path s) es → IsAmongEvents (reads n later other t) es → key_at p n path ≡ key_at p n other → s ≡ t

@@ -15,7 +15,7 @@ ghost use Rattle.dh_sound.specs.BehindViews.{StandsBehindViews};
 ghost use Rattle.dh_sound.specs.BlocksCovered.{BlocksCovered, BlocksKept};
 ghost use Rattle.dh_sound.specs.IndexValues.{IsTypedProgram, AccessesReachBanks};
 ghost use Rattle.dh_meets.specs.FewCopies.{HasFewCopies, NamesBanks};
-ghost use Rattle.dh_sound.specs.KeptPorts.{IsTold, IsNeverStuck, StandsAlways};
+ghost use Rattle.dh_sound.specs.KeptPorts.{HasSoundnessBasis, IsNeverStuck, StandsAlways};
 ghost use Rattle.dh_sound.specs.IndexRules.{KeepsIndexRules};
 ghost use Rattle.dh_sound.specs.Standing.{BlocksKeepPorts};
 ghost use Rattle.dh_sound.specs.StepsCovered.{StepsCovered, StepsKept};
@@ -48,8 +48,8 @@ pub fn accesses_lie_in_their_banks()
 /// Of a program that keeps its ports, each block spends of each bank at most the ports of its memory; so no run of
 /// it, from whatever memories, is ever stuck.
 pub fn kept_ports_are_never_spent()
-    ensures blocks { (p : Program) → IsTold p → BlocksKeepPorts (core_of p) }
-    ensures stuck { (p : Program) → IsTold p → IsNeverStuck p }
+    ensures blocks { (p : Program) → HasSoundnessBasis p → BlocksKeepPorts (core_of p) }
+    ensures stuck { (p : Program) → HasSoundnessBasis p → IsNeverStuck p }
 {}
 
 /// Of a program that breaks no rule but perhaps those on ports, what a block spends of a bank is no more than some set

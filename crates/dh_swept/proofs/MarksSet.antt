@@ -7,13 +7,13 @@ use Rattle.std.proofs.lemmas.List.{get_or_past, get_or-set_same, get_or-set_othe
 use Rattle.std.proofs.lemmas.Option.{slice_get-get_or, get_or_from_slice_get}
 use Rattle.dh_cells.proofs.CellsAppended.{get_longer, get_last, get_either}
 use Rattle.dh_net.specs.declared.nets.Register.{Register}
-use Rattle.dh_swept.specs.FoundWires.{first_marked, with_mark, with_marks, with_register, with_registers, with_next, next_wires}
-use Rattle.dh_swept.specs.NeededCells.{IsMarked, MarksOnly}
+use Rattle.dh_swept.specs.FoundWires.{first_marked, with_mark, with_marks, with_register, with_registers, with_next, register_next_wires}
+use Rattle.dh_swept.specs.NeededCells.{IsMarkedNumber, MarksOnly}
 use Rattle.dh_swept.specs.declared.marking.Marks.{Marks}
 
 -- A flag that is set.
 
-flag_keeps : (flags : List Bool) (w a : ℕ) → IsMarked flags a → IsMarked (set flags w true) a
+flag_keeps : (flags : List Bool) (w a : ℕ) → IsMarkedNumber flags a → IsMarkedNumber (set flags w true) a
 flag_keeps flags w a h =
     elim (cases_eq a w) [
       | inl same ↦
@@ -39,7 +39,7 @@ is_there flags w off =
       | inr past ↦ absurd (let no : true ≡ false = sym (get_or_past flags w true past) ∙ off in cc)
     ]
 
-is_set : (flags : List Bool) (w : ℕ) → get_or flags w true ≡ true → w < length flags → IsMarked flags w
+is_set : (flags : List Bool) (w : ℕ) → get_or flags w true ≡ true → w < length flags → IsMarkedNumber flags w
 is_set flags w on inside = get_or_from_slice_get flags w true false (slice_get-get_or flags w true inside ∙ ap (λ (t : Bool). Some t) on)
 
 pub none_marked : (n a : ℕ) → get_or (replicate n false) a false ≡ false
@@ -78,13 +78,13 @@ all_so P Q (x ∷ xs) so h = (so x h.0, all_so P Q xs so h.1)
 -- the wires that are found are those that are marked, each once
 pub record AreFound (wires : List Bool) (found : List ℕ) : Type 0 where
   pub count : trues wires ≡ length found
-  pub has : (w : ℕ) → IsMarked wires w → (k : ℕ) × (slice_get found k ≡ Some w)
-  pub are : (k w : ℕ) → slice_get found k ≡ Some w → IsMarked wires w
+  pub has : (w : ℕ) → IsMarkedNumber wires w → (k : ℕ) × (slice_get found k ≡ Some w)
+  pub are : (k w : ℕ) → slice_get found k ≡ Some w → IsMarkedNumber wires w
 
 -- of wires nothing is taken back, and of registers nothing changes
 pub record StaysMarked (old new : Marks) : Type 0 where
   pub long : length new.wires ≡ length old.wires
-  pub keeps : (w : ℕ) → IsMarked old.wires w → IsMarked new.wires w
+  pub keeps : (w : ℕ) → IsMarkedNumber old.wires w → IsMarkedNumber new.wires w
   pub found : (k w : ℕ) → slice_get old.found k ≡ Some w → slice_get new.found k ≡ Some w
   pub registers : new.registers ≡ old.registers
 
@@ -123,15 +123,15 @@ first_found w wires found off h = record {
   ];
   are = λ k a at. elim (get_either found w k a at) [
     | inl old ↦ flag_keeps wires w a (h.are k a old)
-    | inr new ↦ subst (λ (x : ℕ). IsMarked (set wires w true) x) new.1 (get_or-set_same wires w true false (is_there wires w off))
+    | inr new ↦ subst (λ (x : ℕ). IsMarkedNumber (set wires w true) x) new.1 (get_or-set_same wires w true false (is_there wires w off))
   ];
 }
 
 mark_found : (w : ℕ) (m : Marks) → AreFound m.wires m.found → AreFound (with_mark w m).wires (with_mark w m).found
 mark_found w m h = by_mark (λ (n : Marks). AreFound n.wires n.found) w m (λ on. h) (λ off. first_found w m.wires m.found off h)
 
-mark_has : (w : ℕ) (m : Marks) → w < length m.wires → IsMarked (with_mark w m).wires w
-mark_has w m inside = by_mark (λ (n : Marks). IsMarked n.wires w) w m (λ on. is_set m.wires w on inside) (λ off. get_or-set_same m.wires w true false inside)
+mark_has : (w : ℕ) (m : Marks) → w < length m.wires → IsMarkedNumber (with_mark w m).wires w
+mark_has w m inside = by_mark (λ (n : Marks). IsMarkedNumber n.wires w) w m (λ on. is_set m.wires w on inside) (λ off. get_or-set_same m.wires w true false inside)
 
 mark_only : (w : ℕ) (m : Marks) (needed : ℕ → Bool) → MarksOnly m.wires needed → needed w ≡ true → MarksOnly (with_mark w m).wires needed
 mark_only w m needed only is = by_mark (λ (n : Marks). MarksOnly n.wires needed) w m (λ on. only) (λ off. flag_only m.wires w needed only is)
@@ -146,7 +146,7 @@ pub marks_found : (ws : List ℕ) (m : Marks) → AreFound m.wires m.found → A
 marks_found [] m h = h
 marks_found (w ∷ ws) m h = marks_found ws (with_mark w m) (mark_found w m h)
 
-pub marks_have : (ws : List ℕ) (m : Marks) → AllByRecursion (λ (a : ℕ). a < length m.wires) ws → AllByRecursion (IsMarked (with_marks ws m).wires) ws
+pub marks_have : (ws : List ℕ) (m : Marks) → AllByRecursion (λ (a : ℕ). a < length m.wires) ws → AllByRecursion (IsMarkedNumber (with_marks ws m).wires) ws
 marks_have [] m h = tt
 marks_have (w ∷ ws) m h = (
   (marks_stay ws (with_mark w m)).keeps w (mark_has w m h.0),
@@ -168,7 +168,7 @@ pub record StaysHeld (old new : Marks) : Type 0 where
   pub wires : new.wires ≡ old.wires
   pub found : new.found ≡ old.found
   pub long : length new.registers ≡ length old.registers
-  pub keeps : (k : ℕ) → IsMarked old.registers k → IsMarked new.registers k
+  pub keeps : (k : ℕ) → IsMarkedNumber old.registers k → IsMarkedNumber new.registers k
 
 pub registers_stay : (ks : List ℕ) (m : Marks) → StaysHeld m (with_registers ks m)
 registers_stay [] m = record { wires = refl; found = refl; long = refl; keeps = λ k h. h }
@@ -176,7 +176,7 @@ registers_stay (x ∷ ks) m =
     let rest = registers_stay ks (with_register x m) in
     record { wires = rest.wires; found = rest.found; long = rest.long ∙ length-set m.registers x true; keeps = λ k h. rest.keeps k (flag_keeps m.registers x k h) }
 
-pub registers_have : (ks : List ℕ) (m : Marks) → AllByRecursion (λ (k : ℕ). k < length m.registers) ks → AllByRecursion (IsMarked (with_registers ks m).registers) ks
+pub registers_have : (ks : List ℕ) (m : Marks) → AllByRecursion (λ (k : ℕ). k < length m.registers) ks → AllByRecursion (IsMarkedNumber (with_registers ks m).registers) ks
 registers_have [] m h = tt
 registers_have (x ∷ ks) m h = (
   (registers_stay ks (with_register x m)).keeps x (get_or-set_same m.registers x true false h.0),
@@ -193,9 +193,9 @@ next_all : (rs : List Register) (P Q : ℕ → Type 0) (k : ℕ) (ws : List ℕ)
 next_all rs P Q k ws so holds None is rest = rest
 next_all rs P Q k ws so holds (Some r) is rest = (so k r is holds, rest)
 
-pub nexts_all : (rs : List Register) (P Q : ℕ → Type 0) (ks : List ℕ) → ((k : ℕ) (r : Register) → slice_get rs k ≡ Some r → Q k → P r.next) → AllByRecursion Q ks → AllByRecursion P (next_wires rs ks)
+pub nexts_all : (rs : List Register) (P Q : ℕ → Type 0) (ks : List ℕ) → ((k : ℕ) (r : Register) → slice_get rs k ≡ Some r → Q k → P r.next) → AllByRecursion Q ks → AllByRecursion P (register_next_wires rs ks)
 nexts_all rs P Q [] so h = tt
-nexts_all rs P Q (k ∷ ks) so h = next_all rs P Q k (next_wires rs ks) so h.0 (slice_get rs k) refl (nexts_all rs P Q ks so h.1)
+nexts_all rs P Q (k ∷ ks) so h = next_all rs P Q k (register_next_wires rs ks) so h.0 (slice_get rs k) refl (nexts_all rs P Q ks so h.1)
 
 next_first : (P : ℕ → Type 0) (o : Option Register) (ws : List ℕ) (r : Register) → o ≡ Some r → AllByRecursion P (with_next o ws) → P r.next
 next_first P None ws r is h = absurd (cc)
@@ -206,14 +206,14 @@ next_rest P None ws h = h
 next_rest P (Some e) ws h = h.1
 
 -- a register that is marked now was marked before or is one of these
-pub nexts_more : (rs : List Register) (P : ℕ → Type 0) (ks : List ℕ) (m : Marks) → ((k : ℕ) (r : Register) → slice_get rs k ≡ Some r → IsMarked m.registers k → P r.next) → AllByRecursion P (next_wires rs ks)
-    → (k : ℕ) (r : Register) → slice_get rs k ≡ Some r → IsMarked (with_registers ks m).registers k → P r.next
+pub nexts_more : (rs : List Register) (P : ℕ → Type 0) (ks : List ℕ) (m : Marks) → ((k : ℕ) (r : Register) → slice_get rs k ≡ Some r → IsMarkedNumber m.registers k → P r.next) → AllByRecursion P (register_next_wires rs ks)
+    → (k : ℕ) (r : Register) → slice_get rs k ≡ Some r → IsMarkedNumber (with_registers ks m).registers k → P r.next
 nexts_more rs P [] m before h k r at on = before k r at on
-nexts_more rs P (x ∷ ks) m before h k r at on = nexts_more rs P ks (with_register x m) with_it (next_rest P (slice_get rs x) (next_wires rs ks) h) k r at on
+nexts_more rs P (x ∷ ks) m before h k r at on = nexts_more rs P ks (with_register x m) with_it (next_rest P (slice_get rs x) (register_next_wires rs ks) h) k r at on
   where
-    with_it : (a : ℕ) (e : Register) → slice_get rs a ≡ Some e → IsMarked (set m.registers x true) a → P e.next
+    with_it : (a : ℕ) (e : Register) → slice_get rs a ≡ Some e → IsMarkedNumber (set m.registers x true) a → P e.next
     with_it a e there marked =
         elim (cases_eq a x) [
-          | inl same ↦ next_first P (slice_get rs x) (next_wires rs ks) e (ap (λ (n : ℕ). slice_get rs n) (sym same) ∙ there) h
+          | inl same ↦ next_first P (slice_get rs x) (register_next_wires rs ks) e (ap (λ (n : ℕ). slice_get rs n) (sym same) ∙ there) h
           | inr other ↦ before a e there (sym (get_or-set_other m.registers x a true false other) ∙ marked)
         ]

@@ -15,11 +15,11 @@ use Rattle.dh_net.specs.declared.nets.Net.{Net}
 use Rattle.dh_net.specs.declared.nets.Register.{Register}
 use Rattle.dh_net.specs.declared.ports.Port.{Port}
 use Rattle.dh_net.proofs.Valuations.{cell_of}
-use Rattle.dh_swept.specs.KeptCells.{number_in}
-use Rattle.dh_swept.specs.NeededCells.{IsMarked, driver_wires, drivers_wires, all_drivers_wires, CanMark}
+use Rattle.dh_swept.specs.KeptCells.{new_number_in}
+use Rattle.dh_swept.specs.NeededCells.{IsMarkedNumber, driver_wires, drivers_wires, all_drivers_wires, CanMark}
 use Rattle.dh_swept.specs.RenamedWires.{operands_of, registers_of, renamed_cell, renamed_register}
-use Rattle.dh_swept.specs.SweptNets.{IsKept, KeepsDriver, IsSwept}
-use Rattle.dh_swept.specs.SweptParts.{ArePartsOf}
+use Rattle.dh_swept.specs.SweptNets.{IsKeptNumber, KeepsDriver, IsSwept}
+use Rattle.dh_swept.specs.SweptParts.{AreSweptParts}
 use Rattle.dh_swept.specs.declared.sweeping.Swept.{Swept}
 use Rattle.dh_swept.proofs.MarksSet.{all_so}
 use Rattle.dh_swept.proofs.WiresFound.{all_front, all_back, all_both}
@@ -115,44 +115,44 @@ module _ (net : Net) (valid : IsValid net) where
 
 -- What is marked is kept.
 
-pub flag_inside : (flags : List Bool) (k : ℕ) → IsMarked flags k → k < length flags
+pub flag_inside : (flags : List Bool) (k : ℕ) → IsMarkedNumber flags k → k < length flags
 flag_inside flags k on =
     elim (cases_lt k (length flags)) [
       | inl inside ↦ inside
       | inr past ↦ absurd (let no : false ≡ true = sym (get_or_past flags k false past) ∙ on in cc)
     ]
 
-module _ (net : Net) (s : Swept) (h : ArePartsOf net s) where
-  pub wire_kept : (wire : ℕ) → IsMarked h.marks.wires wire → IsKept h.at (number_in h.to) wire
+module _ (net : Net) (s : Swept) (h : AreSweptParts net s) where
+  pub wire_kept : (wire : ℕ) → IsMarkedNumber h.marks.wires wire → IsKeptNumber h.at (new_number_in h.to) wire
   wire_kept wire on = h.wires.kept wire (flag_inside h.marks.wires wire on) on
 
-  pub register_kept : (k : ℕ) → IsMarked h.marks.registers k → IsKept h.at_register (number_in h.to_register) k
+  pub register_kept : (k : ℕ) → IsMarkedNumber h.marks.registers k → IsKeptNumber h.at_register (new_number_in h.to_register) k
   register_kept k on = h.held.kept k (flag_inside h.marks.registers k on) on
 
   -- new items stand where kept ones are
-  pub new_cell : (j i : ℕ) (c : Cell) → slice_get h.at j ≡ Some i → slice_get net.cells i ≡ Some c → slice_get s.cells j ≡ Some (renamed_cell (number_in h.to) (number_in h.to_register) c)
+  pub new_cell : (j i : ℕ) (c : Cell) → slice_get h.at j ≡ Some i → slice_get net.cells i ≡ Some c → slice_get s.cells j ≡ Some (renamed_cell (new_number_in h.to) (new_number_in h.to_register) c)
   new_cell j i c at there = h.cells.each j i c (slice_get_within h.at j i at) at there
 
-  pub new_register : (j i : ℕ) (r : Register) → slice_get h.at_register j ≡ Some i → slice_get net.registers i ≡ Some r → slice_get s.registers j ≡ Some (renamed_register (number_in h.to) r)
+  pub new_register : (j i : ℕ) (r : Register) → slice_get h.at_register j ≡ Some i → slice_get net.registers i ≡ Some r → slice_get s.registers j ≡ Some (renamed_register (new_number_in h.to) r)
   new_register j i r at there = h.registers.each j i r (slice_get_within h.at_register j i at) at there
 
-  data_kept : (d : Driver) (t : Bool) → d.write ≡ t → AllByRecursion (IsMarked h.marks.wires) (if t then d.data_ ∷ [] else []) → d.write ≡ true → IsKept h.at (number_in h.to) d.data_
+  data_kept : (d : Driver) (t : Bool) → d.write ≡ t → AllByRecursion (IsMarkedNumber h.marks.wires) (if t then d.data_ ∷ [] else []) → d.write ≡ true → IsKeptNumber h.at (new_number_in h.to) d.data_
   data_kept d true is m on = wire_kept d.data_ m.0
   data_kept d false is m on = absurd (let no : false ≡ true = sym is ∙ on in cc)
 
-  drivers_kept : (ds : List Driver) → AllByRecursion (IsMarked h.marks.wires) (drivers_wires ds) → AllByRecursion (KeepsDriver h.at (number_in h.to)) ds
+  drivers_kept : (ds : List Driver) → AllByRecursion (IsMarkedNumber h.marks.wires) (drivers_wires ds) → AllByRecursion (KeepsDriver h.at (new_number_in h.to)) ds
   drivers_kept [] m = tt
   drivers_kept (d ∷ ds) m =
-      let own = all_front (IsMarked h.marks.wires) (driver_wires d) (drivers_wires ds) m in (
+      let own = all_front (IsMarkedNumber h.marks.wires) (driver_wires d) (drivers_wires ds) m in (
         record { enable = wire_kept d.enable own.0; row = wire_kept d.row own.1.0; out = data_kept d d.write refl own.1.1 },
-        drivers_kept ds (all_back (IsMarked h.marks.wires) (driver_wires d) (drivers_wires ds) m),
+        drivers_kept ds (all_back (IsMarkedNumber h.marks.wires) (driver_wires d) (drivers_wires ds) m),
       )
 
-  ports_kept : (dss : List (List Driver)) → AllByRecursion (IsMarked h.marks.wires) (all_drivers_wires dss) → AllByRecursion (λ (ds : List Driver). AllByRecursion (KeepsDriver h.at (number_in h.to)) ds) dss
+  ports_kept : (dss : List (List Driver)) → AllByRecursion (IsMarkedNumber h.marks.wires) (all_drivers_wires dss) → AllByRecursion (λ (ds : List Driver). AllByRecursion (KeepsDriver h.at (new_number_in h.to)) ds) dss
   ports_kept [] m = tt
   ports_kept (ds ∷ dss) m = (
-    drivers_kept ds (all_front (IsMarked h.marks.wires) (drivers_wires ds) (all_drivers_wires dss) m),
-    ports_kept dss (all_back (IsMarked h.marks.wires) (drivers_wires ds) (all_drivers_wires dss) m),
+    drivers_kept ds (all_front (IsMarkedNumber h.marks.wires) (drivers_wires ds) (all_drivers_wires dss) m),
+    ports_kept dss (all_back (IsMarkedNumber h.marks.wires) (drivers_wires ds) (all_drivers_wires dss) m),
   )
 
   pub parts_sweep : (new : Net) → new.table ≡ net.table → new.faults ≡ net.faults → new.registers ≡ s.registers → new.cells ≡ s.cells → new.drivers ≡ s.drivers → new.tick ≡ s.tick → new.done ≡ s.done → new.fault ≡ s.fault → IsSwept net new
@@ -162,18 +162,18 @@ module _ (net : Net) (s : Swept) (h : ArePartsOf net s) where
       let registers_long = h.needed.registers_long in
       record {
         at = h.at;
-        to = number_in h.to;
+        to = new_number_in h.to;
         at_register = h.at_register;
-        to_register = number_in h.to_register;
+        to_register = new_number_in h.to_register;
         long = sym (ap (λ (l : List Cell). length l) cells ∙ h.cells.long);
         registers_long = sym (ap (λ (l : List Register). length l) registers ∙ h.registers.long);
         there = λ j i at. (let inside = h.wires.there j i at in omega (arith, inside, wires_long));
         rises = h.wires.rises;
         cells = λ j i c at there. ap (λ (l : List Cell). slice_get l j) cells ∙ new_cell j i c at there;
         takes = λ j i c at there.
-            all_so (IsMarked h.marks.wires) (IsKept h.at (number_in h.to)) (operands_of c.form) wire_kept (h.needed.operands i c there (h.wires.marked_ones j i at));
+            all_so (IsMarkedNumber h.marks.wires) (IsKeptNumber h.at (new_number_in h.to)) (operands_of c.form) wire_kept (h.needed.operands i c there (h.wires.marked_ones j i at));
         shows = λ j i c at there.
-            all_so (IsMarked h.marks.registers) (IsKept h.at_register (number_in h.to_register)) (registers_of c.form) register_kept (h.needed.shown i c there (h.wires.marked_ones j i at));
+            all_so (IsMarkedNumber h.marks.registers) (IsKeptNumber h.at_register (new_number_in h.to_register)) (registers_of c.form) register_kept (h.needed.shown i c there (h.wires.marked_ones j i at));
         registers_there = λ j i at. (let inside = h.held.there j i at in omega (arith, inside, registers_long));
         registers = λ j i r at there. ap (λ (l : List Register). slice_get l j) registers ∙ new_register j i r at there;
         nexts = λ j i r at there. wire_kept r.next (h.needed.nexts i r there (h.held.marked_ones j i at));

@@ -6,13 +6,13 @@ use Rattle.std.proofs.Math.Seq.{get_or-append_seam}
 use Rattle.std.proofs.lemmas.Bool.{cases_eq}
 use Rattle.std.proofs.lemmas.Option.{slice_get_within, slice_get-get_or, get_or_from_slice_get}
 use Rattle.dh_cells.proofs.CellsAppended.{get_longer, get_last, get_either}
-use Rattle.dh_swept.specs.KeptCells.{AreNumbers, behind_if, number_in}
-use Rattle.dh_swept.specs.NeededCells.{IsMarked}
-use Rattle.dh_swept.specs.SweptNets.{IsKept}
+use Rattle.dh_swept.specs.KeptCells.{RenumbersMarked, behind_if, new_number_in}
+use Rattle.dh_swept.specs.NeededCells.{IsMarkedNumber}
+use Rattle.dh_swept.specs.SweptNets.{IsKeptNumber}
 
-pub numbering_starts : (flags : List Bool) (at to : List ℕ) → at ≡ [] → to ≡ [] → AreNumbers 0 flags at to
+pub numbering_starts : (flags : List Bool) (at to : List ℕ) → at ≡ [] → to ≡ [] → RenumbersMarked 0 flags at to
 numbering_starts flags at to none nothing =
-    subst (λ (l : List ℕ). AreNumbers 0 flags l to) (sym none)
+    subst (λ (l : List ℕ). RenumbersMarked 0 flags l to) (sym none)
     (record {
       numbers = ap (λ (l : List ℕ). length l) nothing;
       there = λ j i here. absurd (let f : None ≡ Some i = here in cc);
@@ -22,21 +22,21 @@ numbering_starts flags at to none nothing =
       kept = λ i less on. absurd (omega (arith, less));
     })
 
-module _ (n : ℕ) (flags : List Bool) (at to : List ℕ) (h : AreNumbers n flags at to) where
-  stays : (i : ℕ) → i < n → number_in to i ≡ number_in (to ++ length at ∷ []) i
+module _ (n : ℕ) (flags : List Bool) (at to : List ℕ) (h : RenumbersMarked n flags at to) where
+  stays : (i : ℕ) → i < n → new_number_in to i ≡ new_number_in (to ++ length at ∷ []) i
   stays i less = let long = h.numbers in sym (get_or-append to (length at ∷ []) 0 i (omega (arith, less, long)))
 
-  here : number_in (to ++ length at ∷ []) n ≡ length at
-  here = ap (λ (k : ℕ). number_in (to ++ length at ∷ []) k) (sym h.numbers) ∙ get_or-append_seam to (length at) [] 0
+  here : new_number_in (to ++ length at ∷ []) n ≡ length at
+  here = ap (λ (k : ℕ). new_number_in (to ++ length at ∷ []) k) (sym h.numbers) ∙ get_or-append_seam to (length at) [] 0
 
-  still_kept : (olds : List ℕ) (i : ℕ) → i < n → IsKept olds (number_in to) i → IsKept olds (number_in (to ++ length at ∷ [])) i
+  still_kept : (olds : List ℕ) (i : ℕ) → i < n → IsKeptNumber olds (new_number_in to) i → IsKeptNumber olds (new_number_in (to ++ length at ∷ [])) i
   still_kept olds i less k = subst (λ (j : ℕ). slice_get olds j ≡ Some i) (stays i less) k
 
   longer : length (to ++ length at ∷ []) ≡ n + 1
   longer = (let long = h.numbers in let both = length-append to (length at ∷ []) in omega (arith, long, both))
 
   -- the next one is not marked
-  passes : get_or flags n false ≡ false → AreNumbers (n + 1) flags at (to ++ length at ∷ [])
+  passes : get_or flags n false ≡ false → RenumbersMarked (n + 1) flags at (to ++ length at ∷ [])
   passes off = record {
     numbers = longer;
     there = λ j i is. (let less = h.there j i is in omega (arith, less));
@@ -50,7 +50,7 @@ module _ (n : ℕ) (flags : List Bool) (at to : List ℕ) (h : AreNumbers n flag
   }
 
   -- it is
-  goes : get_or flags n false ≡ true → AreNumbers (n + 1) flags (at ++ n ∷ []) (to ++ length at ∷ [])
+  goes : get_or flags n false ≡ true → RenumbersMarked (n + 1) flags (at ++ n ∷ []) (to ++ length at ∷ [])
   goes on = record {
     numbers = longer;
     there = λ j i is. elim (get_either at n j i is) [
@@ -59,7 +59,7 @@ module _ (n : ℕ) (flags : List Bool) (at to : List ℕ) (h : AreNumbers n flag
     ];
     marked_ones = λ j i is. elim (get_either at n j i is) [
       | inl old ↦ h.marked_ones j i old
-      | inr new ↦ subst (λ (k : ℕ). IsMarked flags k) new.1 on
+      | inr new ↦ subst (λ (k : ℕ). IsMarkedNumber flags k) new.1 on
     ];
     rises = λ j k a b at_j at_k less. elim (get_either at n j a at_j) [
       | inl old_j ↦ elim (get_either at n k b at_k) [
@@ -73,25 +73,25 @@ module _ (n : ℕ) (flags : List Bool) (at to : List ℕ) (h : AreNumbers n flag
     ];
     back = λ j i is. elim (get_either at n j i is) [
       | inl old ↦ sym (stays i (h.there j i old)) ∙ h.back j i old
-      | inr new ↦ ap (λ (k : ℕ). number_in (to ++ length at ∷ []) k) (sym new.1) ∙ (here ∙ sym new.0)
+      | inr new ↦ ap (λ (k : ℕ). new_number_in (to ++ length at ∷ []) k) (sym new.1) ∙ (here ∙ sym new.0)
     ];
     kept = λ i less mark. elim (cases_eq i n) [
       | inl same ↦
-          subst (λ (k : ℕ). slice_get (at ++ n ∷ []) (number_in (to ++ length at ∷ []) k) ≡ Some k) (sym same)
+          subst (λ (k : ℕ). slice_get (at ++ n ∷ []) (new_number_in (to ++ length at ∷ []) k) ≡ Some k) (sym same)
           (ap (λ (k : ℕ). slice_get (at ++ n ∷ []) k) here ∙ get_last at n)
       | inr other ↦
           (let small : i < n = omega (arith, less, other) in
-          get_longer at n (number_in (to ++ length at ∷ []) i) i (still_kept at i small (h.kept i small mark)))
+          get_longer at n (new_number_in (to ++ length at ∷ []) i) i (still_kept at i small (h.kept i small mark)))
     ];
   }
 
 -- by the index of a loop
-pub numbering_turn : (n : ℕ) (flags : List Bool) (at to after now : List ℕ) (number : ℕ) (default : Bool) → n < length flags → AreNumbers n flags at to → number ≡ length at → now ≡ to ++ number ∷ []
-    → after ≡ behind_if (get_or flags n default) n at → AreNumbers (n + 1) flags after now
+pub numbering_turn : (n : ℕ) (flags : List Bool) (at to after now : List ℕ) (number : ℕ) (default : Bool) → n < length flags → RenumbersMarked n flags at to → number ≡ length at → now ≡ to ++ number ∷ []
+    → after ≡ behind_if (get_or flags n default) n at → RenumbersMarked (n + 1) flags after now
 numbering_turn n flags at to after now number default less h number_is longer_now put =
-    subst (λ (l : List ℕ). AreNumbers (n + 1) flags after l) (sym (longer_now ∙ ap (λ (k : ℕ). to ++ k ∷ []) number_is))
+    subst (λ (l : List ℕ). RenumbersMarked (n + 1) flags after l) (sym (longer_now ∙ ap (λ (k : ℕ). to ++ k ∷ []) number_is))
     (by (get_or flags n default) (get_or_from_slice_get flags n (get_or flags n default) false (slice_get-get_or flags n default less)) put)
   where
-    by : (t : Bool) → get_or flags n false ≡ t → after ≡ behind_if t n at → AreNumbers (n + 1) flags after (to ++ length at ∷ [])
-    by true on is = subst (λ (l : List ℕ). AreNumbers (n + 1) flags l (to ++ length at ∷ [])) (sym is) (goes n flags at to h on)
-    by false off is = subst (λ (l : List ℕ). AreNumbers (n + 1) flags l (to ++ length at ∷ [])) (sym is) (passes n flags at to h off)
+    by : (t : Bool) → get_or flags n false ≡ t → after ≡ behind_if t n at → RenumbersMarked (n + 1) flags after (to ++ length at ∷ [])
+    by true on is = subst (λ (l : List ℕ). RenumbersMarked (n + 1) flags l (to ++ length at ∷ [])) (sym is) (goes n flags at to h on)
+    by false off is = subst (λ (l : List ℕ). RenumbersMarked (n + 1) flags l (to ++ length at ∷ [])) (sym is) (passes n flags at to h off)

@@ -17,8 +17,8 @@ use Rattle.dh_net.specs.declared.ports.Port.{Port}
 use Rattle.dh_net.proofs.Valuations.{one_valuation, some_valuation, one_clock, some_clock}
 use Rattle.dh_plan.specs.PlayedPlans.{WritesLast}
 use Rattle.dh_swept.specs.RenamedWires.{renamed_register, renamed_driver}
-use Rattle.dh_swept.specs.SweptLaws.{DoesTheSame}
-use Rattle.dh_swept.specs.SweptNets.{IsKept, KeepsDriver, IsSwept}
+use Rattle.dh_swept.specs.SweptLaws.{NetDoesTheSame}
+use Rattle.dh_swept.specs.SweptNets.{IsKeptNumber, KeepsDriver, IsSwept}
 use Rattle.dh_swept.proofs.SweptValid.{of_mapped, all_get, swept_valid, swept_reads}
 use Rattle.dh_swept.proofs.SweptShifts.{swept_shifts}
 use Rattle.dh_swept.proofs.SweptValues.{kept_wires, kept_state, kept_shows, old_register, kept_settles}
@@ -213,7 +213,7 @@ module _ (old new : Net) (valid : IsValid old) (h : IsSwept old new) where
         wires_is = wires_are back.0 some.0 vs some.1 (subst (λ (x : State). Settles new x vs) back.1.1 settled);
       }
 
-  out_as : (ws : List ℕ) (n a : ℕ) → n ≡ h.to a → IsKept h.at h.to a → slice_index (kept_wires old new h ws) n ≡ slice_index ws a
+  out_as : (ws : List ℕ) (n a : ℕ) → n ≡ h.to a → IsKeptNumber h.at h.to a → slice_index (kept_wires old new h ws) n ≡ slice_index ws a
   out_as ws n a is k = ap (λ (x : ℕ). slice_index (kept_wires old new h ws) x) is ∙ kept_shows old new h ws a k
 
   shows_as : (r : Run) (clocks n : ℕ) (s : State) (ws : List ℕ) → ShowsRun old r clocks n s ws → ShowsRun new r clocks n (kept s) (kept_wires old new h ws)
@@ -265,5 +265,5 @@ module _ (old new : Net) (valid : IsValid old) (h : IsSwept old new) where
       let was : is_active k.wires e.0 ≡ true = ap (λ (v : ℕ). v == 1) (sym (kept_shows old new h k.wires e.0.enable keeps.enable)) ∙ (sym same ∙ active) in
       w clocks n k.was k.wires k.run k.settled fit q m l.0 e.0 l.1.0 e.1.0 (ap (λ (x : Driver). x.write) (sym e.1.1) ∙ on) was
 
-  pub does_the_same : DoesTheSame old new
+  pub does_the_same : NetDoesTheSame old new
   does_the_same = record { valid = new_valid; table = h.table; faults = h.faults; zero_reads = swept_reads old new h valid; shifts = swept_shifts old new h; plays = plays_as; writes = writes_as }

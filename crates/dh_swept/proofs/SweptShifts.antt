@@ -8,7 +8,7 @@ use Rattle.dh_net.specs.declared.nets.CellForm.TheVariants.{Const, Reg, Data, Ad
 use Rattle.dh_net.specs.declared.nets.Net.{Net}
 use Rattle.dh_cells.specs.NarrowShifts.{form_bits, cell_bits, constant_at, IsBelow, ShiftsLess, HasNarrowShifts}
 use Rattle.dh_swept.specs.RenamedWires.{operands_of, renamed_form}
-use Rattle.dh_swept.specs.SweptNets.{IsKept, IsSwept}
+use Rattle.dh_swept.specs.SweptNets.{IsKeptNumber, IsSwept}
 use Rattle.dh_swept.proofs.SweptValues.{cell_at, old_cell}
 
 -- a constant takes no wire
@@ -34,13 +34,13 @@ same_bits to to_register (Sign a) = refl
 same_bits to to_register (Low a) = refl
 
 module _ (old new : Net) (h : IsSwept old new) where
-  same_constant : (a : ℕ) → IsKept h.at h.to a → constant_at new.cells (h.to a) ≡ constant_at old.cells a
+  same_constant : (a : ℕ) → IsKeptNumber h.at h.to a → constant_at new.cells (h.to a) ≡ constant_at old.cells a
   same_constant a kept = let c = cell_at old new h a kept in ap cell_bits c.1.1 ∙ (same_bits h.to h.to_register c.0.form ∙ sym (ap cell_bits c.1.0))
 
-  below_still : (a bound : ℕ) → IsKept h.at h.to a → IsBelow old.cells a bound → IsBelow new.cells (h.to a) bound
+  below_still : (a bound : ℕ) → IsKeptNumber h.at h.to a → IsBelow old.cells a bound → IsBelow new.cells (h.to a) bound
   below_still a bound kept below = subst (λ (o : Option ℕ). IfSome o (λ (bits : ℕ). bits < bound)) (sym (same_constant a kept)) below
 
-  shifts_still : (width : ℕ) (f : CellForm) → AllByRecursion (IsKept h.at h.to) (operands_of f) → ShiftsLess old.cells width f → ShiftsLess new.cells width (renamed_form h.to h.to_register f)
+  shifts_still : (width : ℕ) (f : CellForm) → AllByRecursion (IsKeptNumber h.at h.to) (operands_of f) → ShiftsLess old.cells width f → ShiftsLess new.cells width (renamed_form h.to h.to_register f)
   shifts_still width (Const bits) k s = tt
   shifts_still width (Reg register) k s = tt
   shifts_still width (Data memory bank port) k s = tt

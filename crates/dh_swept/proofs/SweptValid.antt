@@ -16,7 +16,7 @@ use Rattle.dh_net.specs.declared.nets.Net.{Net}
 use Rattle.dh_net.specs.declared.nets.Register.{Register}
 use Rattle.dh_net.specs.declared.ports.Port.{Port}
 use Rattle.dh_swept.specs.RenamedWires.{operands_of, registers_of, renamed_form, renamed_cell, renamed_driver}
-use Rattle.dh_swept.specs.SweptNets.{IsKept, KeepsDriver, IsSwept}
+use Rattle.dh_swept.specs.SweptNets.{IsKeptNumber, KeepsDriver, IsSwept}
 use Rattle.dh_swept.proofs.SweptValues.{cell_at, register_at, old_cell, old_register}
 
 -- an item of a list that was mapped is of one of the list
@@ -33,25 +33,25 @@ all_get P (y ∷ xs) zero x h at = (let same : y ≡ x = cc in subst P same h.0)
 all_get P (y ∷ xs) (suc i) x h at = all_get P xs i x h.1 at
 
 module _ (old new : Net) (h : IsSwept old new) where
-  kept_width : (a width : ℕ) → IsKept h.at h.to a → HasWidth old.cells a width → HasWidth new.cells (h.to a) width
+  kept_width : (a width : ℕ) → IsKeptNumber h.at h.to a → HasWidth old.cells a width → HasWidth new.cells (h.to a) width
   kept_width a width kept wide =
       let c = cell_at old new h a kept in
       ap (λ (o : Option Cell). option_map (λ (m : Cell). m.width) o) c.1.1 ∙ (sym (ap (λ (o : Option Cell). option_map (λ (m : Cell). m.width) o) c.1.0) ∙ wide)
 
-  kept_register_width : (k width : ℕ) → IsKept h.at_register h.to_register k → option_map (λ (r : Register). r.width) (slice_get old.registers k) ≡ Some width
+  kept_register_width : (k width : ℕ) → IsKeptNumber h.at_register h.to_register k → option_map (λ (r : Register). r.width) (slice_get old.registers k) ≡ Some width
       → option_map (λ (r : Register). r.width) (slice_get new.registers (h.to_register k)) ≡ Some width
   kept_register_width k width kept wide =
       let r = register_at old new h k kept in
       ap (λ (o : Option Register). option_map (λ (q : Register). q.width) o) r.1.1 ∙ (sym (ap (λ (o : Option Register). option_map (λ (q : Register). q.width) o) r.1.0) ∙ wide)
 
   module _ (i j : ℕ) (here : slice_get h.at j ≡ Some i) where
-    kept_operand : (a width : ℕ) → IsKept h.at h.to a → IsOperand old.cells i a width → IsOperand new.cells j (h.to a) width
+    kept_operand : (a width : ℕ) → IsKeptNumber h.at h.to a → IsOperand old.cells i a width → IsOperand new.cells j (h.to a) width
     kept_operand a width kept o = record { earlier = h.rises (h.to a) j a i kept here o.earlier; wide = kept_width a width kept o.wide }
 
-    kept_operands : (a b width : ℕ) → IsKept h.at h.to a → IsKept h.at h.to b → AreOperands old.cells i a b width → AreOperands new.cells j (h.to a) (h.to b) width
+    kept_operands : (a b width : ℕ) → IsKeptNumber h.at h.to a → IsKeptNumber h.at h.to b → AreOperands old.cells i a b width → AreOperands new.cells j (h.to a) (h.to b) width
     kept_operands a b width ka kb o = record { left = kept_operand a width ka o.left; right = kept_operand b width kb o.right }
 
-    kept_fits : (width : ℕ) (f : CellForm) → AllByRecursion (IsKept h.at h.to) (operands_of f) → AllByRecursion (IsKept h.at_register h.to_register) (registers_of f) → FormFits old.table old.registers old.cells i width f
+    kept_fits : (width : ℕ) (f : CellForm) → AllByRecursion (IsKeptNumber h.at h.to) (operands_of f) → AllByRecursion (IsKeptNumber h.at_register h.to_register) (registers_of f) → FormFits old.table old.registers old.cells i width f
         → FormFits old.table new.registers new.cells j width (renamed_form h.to h.to_register f)
     kept_fits width (Const bits) k g o = o
     kept_fits width (Reg register) k g o = kept_register_width register width g.0 o

@@ -12,7 +12,7 @@ use Rattle.dh_net.specs.declared.nets.Net.{Net}
 use Rattle.dh_net.specs.declared.nets.Register.{Register}
 use Rattle.dh_net.specs.Clock.{State, form_value, width_in, wire_width, Settles}
 use Rattle.dh_swept.specs.RenamedWires.{operands_of, registers_of, renamed_form, renamed_cell, renamed_register}
-use Rattle.dh_swept.specs.SweptNets.{IsKept, IsSwept}
+use Rattle.dh_swept.specs.SweptNets.{IsKeptNumber, IsSwept}
 
 module _ (table : List MemEntry) (cells news : List Cell) (to to_register : ℕ → ℕ) (ws vs rs qs hs : List ℕ) where
   -- a wire shows the same by its new number, and has the same width
@@ -51,7 +51,7 @@ all_so P Q [] so h = tt
 all_so P Q (x ∷ xs) so h = (so x h.0, all_so P Q xs so h.1)
 
 -- what the list that is kept shows where the whole list shows it
-shown_at : (at : List ℕ) (to : ℕ → ℕ) (ws : List ℕ) (a : ℕ) → IsKept at to a → slice_index (map (λ (i : ℕ). slice_index ws i) at) (to a) ≡ slice_index ws a
+shown_at : (at : List ℕ) (to : ℕ → ℕ) (ws : List ℕ) (a : ℕ) → IsKeptNumber at to a → slice_index (map (λ (i : ℕ). slice_index ws i) at) (to a) ≡ slice_index ws a
 shown_at at to ws a kept =
     get_or-map (λ (i : ℕ). slice_index ws i) at (to a) 0 0 (slice_get_within at (to a) a kept)
     ∙ ap (λ (i : ℕ). slice_index ws i) (get_or_from_slice_get at (to a) a 0 kept)
@@ -87,18 +87,18 @@ module _ (old new : Net) (h : IsSwept old new) where
   abbrev pub kept_state : State → State
   kept_state s = record { registers = map (λ i. slice_index s.registers i) h.at_register; held = s.held; memories = s.memories }
 
-  pub kept_shows : (ws : List ℕ) (a : ℕ) → IsKept h.at h.to a → slice_index (kept_wires ws) (h.to a) ≡ slice_index ws a
+  pub kept_shows : (ws : List ℕ) (a : ℕ) → IsKeptNumber h.at h.to a → slice_index (kept_wires ws) (h.to a) ≡ slice_index ws a
   kept_shows ws a kept = shown_at h.at h.to ws a kept
 
   -- the cell of a wire that is kept
-  pub cell_at : (a : ℕ) → IsKept h.at h.to a → (c : Cell) × ((slice_get old.cells a ≡ Some c) × (slice_get new.cells (h.to a) ≡ Some (renamed_cell h.to h.to_register c)))
+  pub cell_at : (a : ℕ) → IsKeptNumber h.at h.to a → (c : Cell) × ((slice_get old.cells a ≡ Some c) × (slice_get new.cells (h.to a) ≡ Some (renamed_cell h.to h.to_register c)))
   cell_at a kept = new_item h.at old.cells new.cells (renamed_cell h.to h.to_register) h.there h.cells (h.to a) a kept
 
   -- a register that is kept
-  pub register_at : (k : ℕ) → IsKept h.at_register h.to_register k → (r : Register) × ((slice_get old.registers k ≡ Some r) × (slice_get new.registers (h.to_register k) ≡ Some (renamed_register h.to r)))
+  pub register_at : (k : ℕ) → IsKeptNumber h.at_register h.to_register k → (r : Register) × ((slice_get old.registers k ≡ Some r) × (slice_get new.registers (h.to_register k) ≡ Some (renamed_register h.to r)))
   register_at k kept = new_item h.at_register old.registers new.registers (renamed_register h.to) h.registers_there h.registers (h.to_register k) k kept
 
-  pub kept_wide : (a : ℕ) → IsKept h.at h.to a → wire_width new.cells (h.to a) ≡ wire_width old.cells a
+  pub kept_wide : (a : ℕ) → IsKeptNumber h.at h.to a → wire_width new.cells (h.to a) ≡ wire_width old.cells a
   kept_wide a kept = let c = cell_at a kept in ap width_in c.1.1 ∙ sym (ap width_in c.1.0)
 
   -- the old cell of a new one
@@ -122,9 +122,9 @@ module _ (old new : Net) (h : IsSwept old new) where
         ∙ (ap (λ (k : ℕ). slice_index ws k) (get_or_from_slice_get h.at j i 0 o.1.1.0)
         ∙ (v.each i c o.1.1.1.0
         ∙ (sym (value_as old.table old.cells new.cells h.to h.to_register ws (kept_wires ws) s.registers qs s.held c.width c.form
-        (all_so (IsKept h.at h.to) (ShowsAs old.table old.cells new.cells h.to h.to_register ws (kept_wires ws) s.registers qs s.held) (operands_of c.form) (λ a kept. record { same = kept_shows ws a kept; wide = kept_wide a kept })
+        (all_so (IsKeptNumber h.at h.to) (ShowsAs old.table old.cells new.cells h.to h.to_register ws (kept_wires ws) s.registers qs s.held) (operands_of c.form) (λ a kept. record { same = kept_shows ws a kept; wide = kept_wide a kept })
         (h.takes j i c o.1.1.0 o.1.1.1.0))
-        (all_so (IsKept h.at_register h.to_register) (HoldsAs old.table old.cells new.cells h.to h.to_register ws (kept_wires ws) s.registers qs s.held) (registers_of c.form) (λ k kept. shown_at h.at_register h.to_register s.registers k kept)
+        (all_so (IsKeptNumber h.at_register h.to_register) (HoldsAs old.table old.cells new.cells h.to h.to_register ws (kept_wires ws) s.registers qs s.held) (registers_of c.form) (λ k kept. shown_at h.at_register h.to_register s.registers k kept)
         (h.shows j i c o.1.1.0 o.1.1.1.0)))
         ∙ (ap (λ (t : List MemEntry). form_value t new.cells qs s.held (kept_wires ws) c.width (renamed_form h.to h.to_register c.form)) (sym h.table)
         ∙ ap (λ (m : Cell). form_value new.table new.cells qs s.held (kept_wires ws) m.width m.form) (sym o.1.1.1.1)))));

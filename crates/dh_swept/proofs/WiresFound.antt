@@ -10,8 +10,8 @@ use Rattle.dh_net.specs.declared.nets.Cell.{Cell}
 use Rattle.dh_net.specs.declared.nets.Driver.{Driver}
 use Rattle.dh_net.specs.declared.nets.Net.{Net}
 use Rattle.dh_net.specs.declared.nets.Register.{Register}
-use Rattle.dh_swept.specs.FoundWires.{unmarked, with_marks, with_registers, next_wires, taken_wires, with_taken, with_cell, with_wire}
-use Rattle.dh_swept.specs.NeededCells.{IsMarked, MarksOnly, drivers_wires, all_drivers_wires, root_wires, HasNeeded, MarksNeeded, CanMark}
+use Rattle.dh_swept.specs.FoundWires.{unmarked, with_marks, with_registers, register_next_wires, taken_wires, with_taken, with_cell_marked, with_wire}
+use Rattle.dh_swept.specs.NeededCells.{IsMarkedNumber, MarksOnly, drivers_wires, all_drivers_wires, root_wires, HasNeeded, MarksNeeded, CanMark}
 use Rattle.dh_swept.specs.RenamedWires.{operands_of, registers_of}
 use Rattle.dh_swept.specs.declared.marking.Marks.{Marks}
 use Rattle.dh_swept.proofs.MarksSet.{none_marked, trues_most, trues_none, all_so, AreFound, StaysMarked, marks_stay, marks_found, marks_have, marks_only, marks_both, StaysHeld, registers_stay, registers_have, registers_only, nexts_all, nexts_more}
@@ -43,11 +43,11 @@ ports_turn i lists list slice first now new less is same so put =
 pub record IsLooked (net : Net) (n : ℕ) (m : Marks) : Type 0 where
   pub long : length m.wires ≡ length net.cells
   pub registers_long : length m.registers ≡ length net.registers
-  pub roots : AllByRecursion (IsMarked m.wires) (root_wires net)
+  pub roots : AllByRecursion (IsMarkedNumber m.wires) (root_wires net)
   pub are_found : AreFound m.wires m.found
-  pub operands : (k w : ℕ) (c : Cell) → k < n → slice_get m.found k ≡ Some w → slice_get net.cells w ≡ Some c → AllByRecursion (IsMarked m.wires) (operands_of c.form)
-  pub shown : (k w : ℕ) (c : Cell) → k < n → slice_get m.found k ≡ Some w → slice_get net.cells w ≡ Some c → AllByRecursion (IsMarked m.registers) (registers_of c.form)
-  pub nexts : (k : ℕ) (r : Register) → slice_get net.registers k ≡ Some r → IsMarked m.registers k → IsMarked m.wires r.next
+  pub operands : (k w : ℕ) (c : Cell) → k < n → slice_get m.found k ≡ Some w → slice_get net.cells w ≡ Some c → AllByRecursion (IsMarkedNumber m.wires) (operands_of c.form)
+  pub shown : (k w : ℕ) (c : Cell) → k < n → slice_get m.found k ≡ Some w → slice_get net.cells w ≡ Some c → AllByRecursion (IsMarkedNumber m.registers) (registers_of c.form)
+  pub nexts : (k : ℕ) (r : Register) → slice_get net.registers k ≡ Some r → IsMarkedNumber m.registers k → IsMarkedNumber m.wires r.next
   pub only : (needed held : ℕ → Bool) → HasNeeded net needed held → MarksOnly m.wires needed
   pub only_held : (needed held : ℕ → Bool) → HasNeeded net needed held → MarksOnly m.registers held
 
@@ -61,7 +61,7 @@ none_found count = record {
 }
 
 module _ (net : Net) (can : CanMark net) where
-  none_held : (k : ℕ) → IsMarked (with_marks (root_wires net) (unmarked net)).registers k → false ≡ true
+  none_held : (k : ℕ) → IsMarkedNumber (with_marks (root_wires net) (unmarked net)).registers k → false ≡ true
   none_held k on =
       sym (none_marked (length net.registers) k) ∙ (ap (λ (l : List Bool). get_or l k false) (sym (marks_stay (root_wires net) (unmarked net)).registers) ∙ on)
 
@@ -105,28 +105,28 @@ module _ (net : Net) (can : CanMark net) (n : ℕ) (m : Marks) (h : IsLooked net
   stays : StaysMarked between after
   stays = marks_stay ws between
 
-  keeps : (a : ℕ) → IsMarked m.wires a → IsMarked after.wires a
-  keeps a on = stays.keeps a (subst (λ (l : List Bool). IsMarked l a) (sym held.wires) on)
+  keeps : (a : ℕ) → IsMarkedNumber m.wires a → IsMarkedNumber after.wires a
+  keeps a on = stays.keeps a (subst (λ (l : List Bool). IsMarkedNumber l a) (sym held.wires) on)
 
-  keeps_held : (k : ℕ) → IsMarked between.registers k → IsMarked after.registers k
-  keeps_held k on = subst (λ (l : List Bool). IsMarked l k) (sym stays.registers) on
+  keeps_held : (k : ℕ) → IsMarkedNumber between.registers k → IsMarkedNumber after.registers k
+  keeps_held k on = subst (λ (l : List Bool). IsMarkedNumber l k) (sym stays.registers) on
 
   found : (k a : ℕ) → slice_get m.found k ≡ Some a → slice_get after.found k ≡ Some a
   found k a at = stays.found k a (subst (λ (l : List ℕ). slice_get l k ≡ Some a) (sym held.found) at)
 
   are_there : AllByRecursion (λ (a : ℕ). a < length net.cells) ws
   are_there =
-      all_both (λ (a : ℕ). a < length net.cells) (operands_of c.form) (next_wires net.registers ks) (can.operands w c there)
+      all_both (λ (a : ℕ). a < length net.cells) (operands_of c.form) (register_next_wires net.registers ks) (can.operands w c there)
       (nexts_all net.registers (λ (a : ℕ). a < length net.cells) (λ (k : ℕ). k < length net.registers) ks (λ k r at inside. can.nexts k r at) (can.shown w c there))
 
-  marked : AllByRecursion (IsMarked after.wires) ws
+  marked : AllByRecursion (IsMarkedNumber after.wires) ws
   marked =
       marks_have ws between
       (subst (λ (count : ℕ). AllByRecursion (λ (a : ℕ). a < count) ws) (sym (ap (λ (l : List Bool). length l) held.wires ∙ h.long)) are_there)
 
-  marked_held : AllByRecursion (IsMarked after.registers) ks
+  marked_held : AllByRecursion (IsMarkedNumber after.registers) ks
   marked_held =
-      all_so (IsMarked between.registers) (IsMarked after.registers) ks keeps_held
+      all_so (IsMarkedNumber between.registers) (IsMarkedNumber after.registers) ks keeps_held
       (registers_have ks m (subst (λ (count : ℕ). AllByRecursion (λ (k : ℕ). k < count) ks) (sym h.registers_long) (can.shown w c there)))
 
   -- this wire, by its place
@@ -152,30 +152,30 @@ module _ (net : Net) (can : CanMark net) (n : ℕ) (m : Marks) (h : IsLooked net
   looked = record {
     long = stays.long ∙ (ap (λ (l : List Bool). length l) held.wires ∙ h.long);
     registers_long = ap (λ (l : List Bool). length l) stays.registers ∙ (held.long ∙ h.registers_long);
-    roots = all_so (IsMarked m.wires) (IsMarked after.wires) (root_wires net) keeps h.roots;
+    roots = all_so (IsMarkedNumber m.wires) (IsMarkedNumber after.wires) (root_wires net) keeps h.roots;
     are_found = marks_found ws between (subst (λ (l : List Bool). AreFound l between.found) (sym held.wires) (subst (λ (l : List ℕ). AreFound m.wires l) (sym held.found) h.are_found));
     operands = λ k v d small at inside. elim (cases_eq k n) [
       | inl same ↦
           let one = this_cell v d (subst (λ (x : ℕ). slice_get after.found x ≡ Some v) same at) inside in
-          subst (λ (x : Cell). AllByRecursion (IsMarked after.wires) (operands_of x.form)) one (all_front (IsMarked after.wires) (operands_of c.form) (next_wires net.registers ks) marked)
+          subst (λ (x : Cell). AllByRecursion (IsMarkedNumber after.wires) (operands_of x.form)) one (all_front (IsMarkedNumber after.wires) (operands_of c.form) (register_next_wires net.registers ks) marked)
       | inr other ↦
           let less : k < n = omega (arith, small, other) in
-          all_so (IsMarked m.wires) (IsMarked after.wires) (operands_of d.form) keeps (h.operands k v d less (found_before k v less at) inside)
+          all_so (IsMarkedNumber m.wires) (IsMarkedNumber after.wires) (operands_of d.form) keeps (h.operands k v d less (found_before k v less at) inside)
     ];
     shown = λ k v d small at inside. elim (cases_eq k n) [
       | inl same ↦
           let one = this_cell v d (subst (λ (x : ℕ). slice_get after.found x ≡ Some v) same at) inside in
-          subst (λ (x : Cell). AllByRecursion (IsMarked after.registers) (registers_of x.form)) one marked_held
+          subst (λ (x : Cell). AllByRecursion (IsMarkedNumber after.registers) (registers_of x.form)) one marked_held
       | inr other ↦
           let less : k < n = omega (arith, small, other) in
-          all_so (IsMarked m.registers) (IsMarked after.registers) (registers_of d.form) (λ a on. keeps_held a (held.keeps a on)) (h.shown k v d less (found_before k v less at) inside)
+          all_so (IsMarkedNumber m.registers) (IsMarkedNumber after.registers) (registers_of d.form) (λ a on. keeps_held a (held.keeps a on)) (h.shown k v d less (found_before k v less at) inside)
     ];
     nexts = λ k r at on.
-        nexts_more net.registers (IsMarked after.wires) ks m (λ a e inside before. keeps e.next (h.nexts a e inside before)) (all_back (IsMarked after.wires) (operands_of c.form) (next_wires net.registers ks) marked) k r at
-        (subst (λ (l : List Bool). IsMarked l k) stays.registers on);
+        nexts_more net.registers (IsMarkedNumber after.wires) ks m (λ a e inside before. keeps e.next (h.nexts a e inside before)) (all_back (IsMarkedNumber after.wires) (operands_of c.form) (register_next_wires net.registers ks) marked) k r at
+        (subst (λ (l : List Bool). IsMarkedNumber l k) stays.registers on);
     only = λ needed kept has.
         marks_only ws between needed (subst (λ (l : List Bool). MarksOnly l needed) (sym held.wires) (h.only needed kept has))
-        (all_both (λ (a : ℕ). needed a ≡ true) (operands_of c.form) (next_wires net.registers ks) (has.operands w c there (needs needed kept has))
+        (all_both (λ (a : ℕ). needed a ≡ true) (operands_of c.form) (register_next_wires net.registers ks) (has.operands w c there (needs needed kept has))
         (nexts_all net.registers (λ (a : ℕ). needed a ≡ true) (λ (k : ℕ). kept k ≡ true) ks has.nexts (has.shown w c there (needs needed kept has))));
     only_held = λ needed kept has.
         subst (λ (l : List Bool). MarksOnly l kept) (sym stays.registers)
@@ -205,7 +205,7 @@ looked_none net n m h free = record {
 pub looking_turn : (net : Net) (n : ℕ) (m new : Marks) → CanMark net → IsLooked net n m → new ≡ with_wire net (slice_get m.found n) m → IsLooked net (n + 1) new
 looking_turn net n m new can h is = subst (λ (x : Marks). IsLooked net (n + 1) x) (sym is) (by (slice_get m.found n) refl)
   where
-    by_cell : (w : ℕ) → slice_get m.found n ≡ Some w → (o : Option Cell) → slice_get net.cells w ≡ o → IsLooked net (n + 1) (with_cell net.registers o m)
+    by_cell : (w : ℕ) → slice_get m.found n ≡ Some w → (o : Option Cell) → slice_get net.cells w ≡ o → IsLooked net (n + 1) (with_cell_marked net.registers o m)
     by_cell w here None none =
         looked_none net n m h (λ v d at inside.
         let one : Some w ≡ Some v = sym here ∙ at in

@@ -39,28 +39,28 @@ with_next None ws = ws
 with_next (Some r) ws = r.next ∷ ws
 
 -- the wires that registers with these numbers take
-abbrev pub next_wires : List Register → (numbers : List ℕ) → List ℕ
-next_wires rs [] = []
-next_wires rs (k ∷ ks) = with_next (slice_get rs k) (next_wires rs ks)
+abbrev pub register_next_wires : List Register → (numbers : List ℕ) → List ℕ
+register_next_wires rs [] = []
+register_next_wires rs (k ∷ ks) = with_next (slice_get rs k) (register_next_wires rs ks)
 
 -- the wires that come with a form: its operands, and the wire that the register takes which it shows
 abbrev pub taken_wires : List Register → CellForm → List ℕ
-taken_wires rs form = operands_of form ++ next_wires rs (registers_of form)
+taken_wires rs form = operands_of form ++ register_next_wires rs (registers_of form)
 
 -- a register is marked, and the wire that it takes
 abbrev pub with_held : List Register → (register : ℕ) → Marks → Marks
-with_held rs k m = with_marks (next_wires rs (k ∷ [])) (with_registers (k ∷ []) m)
+with_held rs k m = with_marks (register_next_wires rs (k ∷ [])) (with_registers (k ∷ []) m)
 
 -- all that comes with a form is marked
 abbrev pub with_taken : List Register → CellForm → Marks → Marks
 with_taken rs form m = with_marks (taken_wires rs form) (with_registers (registers_of form) m)
 
 -- all that comes with the form of a cell is marked, where there is a cell
-abbrev pub with_cell : List Register → Option Cell → Marks → Marks
-with_cell rs None m = m
-with_cell rs (Some c) m = with_taken rs c.form m
+abbrev pub with_cell_marked : List Register → Option Cell → Marks → Marks
+with_cell_marked rs None m = m
+with_cell_marked rs (Some c) m = with_taken rs c.form m
 
 -- all that comes with the cell of a wire is marked, where there is a wire
 abbrev pub with_wire : Net → Option ℕ → Marks → Marks
 with_wire net None m = m
-with_wire net (Some w) m = with_cell net.registers (slice_get net.cells w) m
+with_wire net (Some w) m = with_cell_marked net.registers (slice_get net.cells w) m

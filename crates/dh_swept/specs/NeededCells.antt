@@ -9,8 +9,8 @@ use Rattle.dh_swept.specs.RenamedWires.{operands_of, registers_of}
 use Rattle.dh_swept.specs.declared.marking.Marks.{Marks}
 
 -- what has this number is marked
-abbrev pub IsMarked : List Bool → (number : ℕ) → Type 0
-IsMarked flags number = get_or flags number false ≡ true
+abbrev pub IsMarkedNumber : List Bool → (number : ℕ) → Type 0
+IsMarkedNumber flags number = get_or flags number false ≡ true
 
 -- the wires that a driver takes
 abbrev pub driver_wires : Driver → List ℕ
@@ -43,16 +43,16 @@ pub record NeedsAll (net : Net) : Type 0 where
 
 -- nothing is marked that a set has not
 abbrev pub MarksOnly : List Bool → (needed : ℕ → Bool) → Type 0
-MarksOnly flags needed = (number : ℕ) → IsMarked flags number → needed number ≡ true
+MarksOnly flags needed = (number : ℕ) → IsMarkedNumber flags number → needed number ≡ true
 
 -- all that is needed is marked, and nothing else
 pub record MarksNeeded (net : Net) (m : Marks) : Type 0 where
   pub long : length m.wires ≡ length net.cells
   pub registers_long : length m.registers ≡ length net.registers
-  pub roots : AllByRecursion (IsMarked m.wires) (root_wires net)
-  pub operands : (i : ℕ) (c : Cell) → slice_get net.cells i ≡ Some c → IsMarked m.wires i → AllByRecursion (IsMarked m.wires) (operands_of c.form)
-  pub shown : (i : ℕ) (c : Cell) → slice_get net.cells i ≡ Some c → IsMarked m.wires i → AllByRecursion (IsMarked m.registers) (registers_of c.form)
-  pub nexts : (k : ℕ) (r : Register) → slice_get net.registers k ≡ Some r → IsMarked m.registers k → IsMarked m.wires r.next
+  pub roots : AllByRecursion (IsMarkedNumber m.wires) (root_wires net)
+  pub operands : (i : ℕ) (c : Cell) → slice_get net.cells i ≡ Some c → IsMarkedNumber m.wires i → AllByRecursion (IsMarkedNumber m.wires) (operands_of c.form)
+  pub shown : (i : ℕ) (c : Cell) → slice_get net.cells i ≡ Some c → IsMarkedNumber m.wires i → AllByRecursion (IsMarkedNumber m.registers) (registers_of c.form)
+  pub nexts : (k : ℕ) (r : Register) → slice_get net.registers k ≡ Some r → IsMarkedNumber m.registers k → IsMarkedNumber m.wires r.next
   pub only : (needed held : ℕ → Bool) → HasNeeded net needed held → MarksOnly m.wires needed
   pub only_held : (needed held : ℕ → Bool) → HasNeeded net needed held → MarksOnly m.registers held
 

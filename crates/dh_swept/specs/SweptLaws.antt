@@ -8,7 +8,7 @@ use Rattle.dh_cells.specs.NarrowShifts.{HasNarrowShifts}
 use Rattle.dh_swept.specs.NeededCells.{NeedsAll}
 use Rattle.dh_swept.specs.SweptNets.{IsSwept}
 
-pub record DoesTheSame (old new : Net) : Type 0 where
+pub record NetDoesTheSame (old new : Net) : Type 0 where
   pub valid : IsValid new
   pub table : new.table ≡ old.table
   pub faults : new.faults ≡ old.faults
@@ -19,8 +19,8 @@ pub record DoesTheSame (old new : Net) : Type 0 where
 
 -- what a net becomes without the cells and registers that it does not need
 pub record IsSweptOf (old new : Net) : Type 0 where
-  pub same : DoesTheSame old new
+  pub same : NetDoesTheSame old new
   pub needed : NeedsAll new
 
 abbrev pub SweptNetsDoTheSame : Type 0
-SweptNetsDoTheSame = (old new : Net) → IsValid old → IsSwept old new → DoesTheSame old new
+SweptNetsDoTheSame = (old new : Net) → IsValid old → IsSwept old new → NetDoesTheSame old new

@@ -1,7 +1,7 @@
 //! Cells, registers and drivers by new numbers of what they take.
 
 ghost use Rattle.std.specs.Prelude.{◌≡◌, length, IfOk};
-ghost use Rattle.dh_swept.specs.KeptCells.{AreBelow, KeepsCells, KeepsDrivers, KeepsRegisters, number_in};
+ghost use Rattle.dh_swept.specs.KeptCells.{AreBelow, KeepsCells, KeepsDrivers, KeepsRegisters, new_number_in};
 ghost use Rattle.dh_swept.specs.RenamedWires.{renamed_cell, renamed_driver, renamed_drivers, renamed_form, renamed_register};
 
 use crate::numbering::number_of;
@@ -11,7 +11,7 @@ use std::alloc::Global;
 
 /// A form by new numbers.
 fn rename_form(to: &[u64], to_register: &[u64], form: CellForm) -> CellForm
-    ensures { result ≡ renamed_form (number_in to.now) (number_in to_register.now) form }
+    ensures { result ≡ renamed_form (new_number_in to.now) (new_number_in to_register.now) form }
 {
     match form {
         CellForm::Const { bits } => CellForm::Const { bits },
@@ -86,7 +86,7 @@ fn rename_form(to: &[u64], to_register: &[u64], form: CellForm) -> CellForm
 
 /// A cell by new numbers of what it takes.
 fn rename_cell(to: &[u64], to_register: &[u64], cell: Cell) -> Cell
-    ensures { result ≡ renamed_cell (number_in to.now) (number_in to_register.now) cell }
+    ensures { result ≡ renamed_cell (new_number_in to.now) (new_number_in to_register.now) cell }
 {
     Cell {
         width: cell.width,
@@ -115,7 +115,7 @@ pub fn keep_cells(
 
 /// A register that takes its wire by the new number.
 fn rename_register(to: &[u64], register: Register) -> Register
-    ensures { result ≡ renamed_register (number_in to.now) register }
+    ensures { result ≡ renamed_register (new_number_in to.now) register }
 {
     Register {
         width: register.width,
@@ -144,7 +144,7 @@ pub fn keep_registers(
 
 /// A driver that takes wires by new numbers; a read takes no data.
 fn rename_driver(to: &[u64], driver: Driver) -> Driver
-    ensures { result ≡ renamed_driver (number_in to.now) driver }
+    ensures { result ≡ renamed_driver (new_number_in to.now) driver }
 {
     let data_ = if driver.write {
         number_of(to, driver.data_)
@@ -161,7 +161,7 @@ fn rename_driver(to: &[u64], driver: Driver) -> Driver
 
 /// The drivers of a port.
 fn rename_list(alloc: Global, to: &[u64], drivers: &[Driver]) -> Result<Items<Driver>, NoMemory>
-    ensures { IfOk result (λ renamed. renamed ≡ renamed_drivers (number_in to.now) drivers.now) }
+    ensures { IfOk result (λ renamed. renamed ≡ renamed_drivers (new_number_in to.now) drivers.now) }
 {
     let mut renamed = Items::with_room(alloc, drivers.len())?;
     for driver in drivers {

@@ -1,7 +1,7 @@
 //! New numbers for those of several that are marked.
 
 ghost use Rattle.std.specs.Prelude.{◌≡◌, IfOk, OnOk};
-ghost use Rattle.dh_swept.specs.KeptCells.{NumbersAll, behind_if, number_in};
+ghost use Rattle.dh_swept.specs.KeptCells.{NumbersAll, behind_if, new_number_in};
 
 use dh_base::{Items, NoMemory};
 use std::alloc::Global;
@@ -17,7 +17,7 @@ pub struct Numbers {
 
 /// The new number of what had this one, 0 where there is none.
 pub fn number_of(to: &[u64], number: u64) -> u64
-    ensures { result ≡ number_in to.now number }
+    ensures { result ≡ new_number_in to.now number }
 {
     match to.get(number as usize) {
         Some(new) => *new,

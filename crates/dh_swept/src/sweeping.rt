@@ -2,7 +2,7 @@
 
 ghost use Rattle.std.specs.Prelude.{IfOk};
 ghost use Rattle.dh_net.specs.Valid.{IsValid};
-ghost use Rattle.dh_swept.specs.SweptParts.{ArePartsOf};
+ghost use Rattle.dh_swept.specs.SweptParts.{AreSweptParts};
 ghost use Rattle.dh_swept.specs.SweptLaws.{IsSweptOf};
 
 use crate::keeping::{keep_cells, keep_registers, rename_drivers};
@@ -30,7 +30,7 @@ pub struct Swept {
 /// What is new of a net without the cells and registers that it does not need.
 fn sweep_parts(alloc: Global, net: &Net) -> Result<Swept, NoMemory>
     requires { IsValid net.now }
-    ensures { IfOk result (λ swept. ArePartsOf net.now swept) }
+    ensures { IfOk result (λ swept. AreSweptParts net.now swept) }
 {
     let marks = mark_needed(alloc, net)?;
     let wires = number_marked(alloc, marks.wires.as_slice())?;
@@ -57,7 +57,7 @@ fn sweep_parts(alloc: Global, net: &Net) -> Result<Swept, NoMemory>
 /// The net with what is new of it.
 fn join_swept(net: Net, swept: Swept) -> Net
     requires valid { IsValid net }
-    requires parts { ArePartsOf net swept }
+    requires parts { AreSweptParts net swept }
     ensures { IsSweptOf net result }
 {
     Net {

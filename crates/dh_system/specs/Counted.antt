@@ -10,34 +10,34 @@ use Rattle.dh_base.specs.declared.outside.FileFault.TheVariants as file
 use Rattle.dh_base.specs.declared.outside.SinkFault.{SinkFault}
 
 -- how many reads were asked for, how many faults were met, and how many bytes were taken
-pub record Counts : Type 0 where
+pub record FileCounts : Type 0 where
   pub reads : ℕ
   pub faults : ℕ
   pub taken : ℕ
 
 -- files of which this is told, with these counts
-abbrev pub files_with : Told → Counts → FilesSeen
+abbrev pub files_with : Told → FileCounts → FilesSeen
 files_with told counts = record { told = λ _. told; reads = counts.reads; faults = counts.faults; taken = counts.taken }
 
 -- what a reader's last bytes tell of the file that it reads: its contents, where they are known
-abbrev pub told_of : Option (List ℕ) → Told
-told_of None = Untold
-told_of (Some bytes) = Holds bytes
+abbrev pub told_contents : Option (List ℕ) → Told
+told_contents None = Untold
+told_contents (Some bytes) = Holds bytes
 
 -- a read of files of which this is told answers so
-abbrev pub ReadsTold : Told → (old new : Counts) → (name : List ℕ) → (limit : ℕ) → Result (Vec ℕ Global) FileFault → Type 0
+abbrev pub ReadsTold : Told → (old new : FileCounts) → (name : List ℕ) → (limit : ℕ) → Result (Vec ℕ Global) FileFault → Type 0
 ReadsTold told old new name limit result = Reads (files_with told old) (files_with told new) name limit result
 
 -- a file that was counted as read is read: a fault is counted only where that fails
-pub record CountsOpened (old new : Counts) (result : Result (Vec ℕ Global) FileFault) : Type 0 where
+pub record CountsOpened (old new : FileCounts) (result : Result (Vec ℕ Global) FileFault) : Type 0 where
   pub reads : new.reads ≡ old.reads
   pub fault : CountsFault (files_with Untold old) (files_with Untold new) result
 
 -- an error of the system is this fault, and is counted unless it is want of memory
-abbrev pub Meets : Counts → Counts → FileFault → Type 0
-Meets old new file.Failed = Rose old.faults new.faults × (new.reads ≡ old.reads)
-Meets old new file.TooLong = ⊥
-Meets old new file.NoMemory = new ≡ old
+abbrev pub MeetsFileFault : FileCounts → FileCounts → FileFault → Type 0
+MeetsFileFault old new file.Failed = Rose old.faults new.faults × (new.reads ≡ old.reads)
+MeetsFileFault old new file.TooLong = ⊥
+MeetsFileFault old new file.NoMemory = new ≡ old
 
 -- the fault is want of memory only where the error is of that kind
 abbrev pub NoMemoryMeansOutOfMemory : FileFault → ErrorKind → Type 0

@@ -3,7 +3,7 @@
 ghost use Rattle.std.specs.Prelude.{◌≡◌, []};
 ghost use Rattle.std.specs.IoError.{error_kind};
 ghost use Rattle.dh_base.specs.Outside.{Untold, KeepsFiles};
-ghost use Rattle.dh_system.specs.Counted.{Counts, CountsOpened, Meets, NoMemoryMeansOutOfMemory, ReadsTold, files_with, told_of};
+ghost use Rattle.dh_system.specs.Counted.{FileCounts, CountsOpened, MeetsFileFault, NoMemoryMeansOutOfMemory, ReadsTold, files_with, told_contents};
 
 use dh_base::{FileFault, Files};
 use std::alloc::Global;
@@ -23,9 +23,9 @@ pub struct RealFiles<'a, R: std::rt::Files> {
 }
 
 impl<'a, R: std::rt::Files> Model for RealFiles<'a, R> {
-    ghost use Rattle.dh_system.specs.Counted.{Counts};
+    ghost use Rattle.dh_system.specs.Counted.{FileCounts};
 
-    ghost Value = { Counts };
+    ghost Value = { FileCounts };
 
     ghost view = { λ f. record { reads = f.reads; faults = f.faults; taken = f.taken } };
 }
@@ -79,7 +79,7 @@ impl<'a, R: std::rt::Files> RealFiles<'a, R> {
     ) -> Result<Vec<u8>, FileFault>
         ensures keeps { KeepsFiles (files_with Untold self.old) (files_with Untold self.new) }
         ensures counts { CountsOpened self.old self.new result }
-        ensures answer { ReadsTold (told_of (F.remaining file)) self.old self.new [] limit result }
+        ensures answer { ReadsTold (told_contents (F.remaining file)) self.old self.new [] limit result }
     {
         let mut contents = Vec::new(alloc);
         let cut = limit.saturating_add(1);
@@ -96,7 +96,7 @@ impl<'a, R: std::rt::Files> RealFiles<'a, R> {
     /// The fault that an error of the system is: want of memory, or one to be counted.
     fn met(&mut self, error: &io::Error) -> FileFault
         ensures keeps { KeepsFiles (files_with Untold self.old) (files_with Untold self.new) }
-        ensures answer { Meets self.old self.new result }
+        ensures answer { MeetsFileFault self.old self.new result }
         ensures memory { NoMemoryMeansOutOfMemory result (error_kind error.now) }
     {
         if error.kind() == ErrorKind::OutOfMemory {

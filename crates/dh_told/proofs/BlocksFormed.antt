@@ -43,7 +43,7 @@ use Rattle.dh_gathering.specs.declared.blocks.Made.{Made}
 use Rattle.dh_gathering.specs.Growing.{registers_given}
 use Rattle.dh_gathering.specs.MadeBlocks.{AddsFlag, SetsGiven}
 use Rattle.dh_gathering.specs.PushedSets.{setting, settings}
-use Rattle.dh_told.specs.MadeFormed.{HasRegisters, MadeStraightsAreFormed, MadeTestsAreFormed}
+use Rattle.dh_told.specs.MadeFormed.{HasMadeRegisters, MadeStraightsAreFormed, MadeTestsAreFormed}
 use Rattle.dh_told.proofs.BlocksBegin.{bare_sites, bare_test, held_begins, held_of, noted_begins, round_begins}
 use Rattle.dh_told.proofs.BlocksUnread.{flag_extends, sets_extend}
 
@@ -88,7 +88,7 @@ sets_formed x old new s within held = record { each = each }
 
 -- Straight commands.
 
-pub registers_within : (plan : PlainPlan) (final : Made) (n : ℕ) → HasRegisters plan final → n ≡ registers_given final → n ≤ length plan.registers
+pub registers_within : (plan : PlainPlan) (final : Made) (n : ℕ) → HasMadeRegisters plan final → n ≡ registers_given final → n ≤ length plan.registers
 registers_within plan final n h e = let l = h.given in let r = ap (λ (ks : List Kind). length ks) h.registers in omega (arith, l, r, e)
 
 pub all_reach : (x : FormedBlock) (scene : Scene) (rounds : List Round) (around : _) (cs : List Located) → AllByRecursion (FitsBlock x scene around rounds) cs → AllByRecursion (λ (c : Located). StoresReach c.command) cs

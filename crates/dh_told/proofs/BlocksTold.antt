@@ -23,7 +23,7 @@ use Rattle.dh_sound.specs.Straight.{IsKeptAction}
 use Rattle.dh_sound.proofs.KeptPrograms.{ready_kept}
 use Rattle.dh_sound.proofs.SamePhase.{straight_has_both, test_has_both}
 use Rattle.dh_sound.proofs.Slices.{straight_either, straight_stands, test_either, test_stands}
-use Rattle.dh_plan.specs.Correspondence.{Round}
+use Rattle.dh_plan.specs.Correspondence.{Round, loops_round}
 use Rattle.dh_plan.specs.PlainPlans.{PlainPlan}
 use Rattle.dh_plan.specs.PlanKinds.{IsFormedBlock}
 use Rattle.dh_expressions.specs.declared.scenes.Around.{Around}
@@ -44,7 +44,7 @@ use Rattle.dh_laid.specs.BlockSites.{block_sites, test_sites}
 use Rattle.dh_laid.specs.LaidNumbers.{StoresReach}
 use Rattle.dh_laid.specs.LaidQuiet.{BlockStandsIn}
 use Rattle.dh_typed_blocks.specs.ScenesTold.{TellsScene}
-use Rattle.dh_typed_blocks.specs.SoundBlocks.{IsPlaceTold, loops_of}
+use Rattle.dh_typed_blocks.specs.SoundBlocks.{IsPlaceTold}
 use Rattle.dh_typed_blocks.specs.TypedTerms.{ActionTyped}
 use Rattle.dh_typed_laid.specs.SuitingBlocks.{FitsBlock, KeepsShares, StandsSo}
 use Rattle.dh_gathering.specs.declared.blocks.Made.{Made}
@@ -60,7 +60,7 @@ use Rattle.dh_used.proofs.SharesOfProgram.{any_below, test_below}
 use Rattle.dh_used.proofs.NodesMade.{straight_named}
 use Rattle.dh_used.proofs.PlansUsed.{all_named, phases_named}
 use Rattle.dh_used.proofs.SitesOfSource.{blocks_are_sited, tests_are_sited}
-use Rattle.dh_told.specs.MadeFormed.{HasRegisters}
+use Rattle.dh_told.specs.MadeFormed.{HasMadeRegisters}
 use Rattle.dh_told.specs.PlacedSound.{SoundStraight, SoundTest}
 use Rattle.dh_told.proofs.BlocksFormed.{made_straights_are_formed, made_tests_are_formed}
 use Rattle.dh_told.proofs.BlocksPlaced.{placed_straights_are_sound, placed_tests_are_sound}
@@ -94,7 +94,7 @@ module _ (scene : Scene) (count : ℕ) (plan : PlainPlan) (final : Made) (h : Is
   pub holds : HoldsVariables scene plan count
   holds = scenes_hold scene plan count h.ready h.order h.views h.scopes h.table h.kinds
 
-  pub has : HasRegisters plan final
+  pub has : HasMadeRegisters plan final
   has = record {
     registers = h.made.registers;
     given = subst (λ (n : ℕ). n ≤ length final.registers) (sym h.made.given) (subst (λ (ks : List Kind). count ≤ length ks) h.made.registers holds.within);
@@ -111,7 +111,7 @@ module _ (scene : Scene) (count : ℕ) (plan : PlainPlan) (final : Made) (h : Is
     top : IsTop rounds around
     top = rounds_are_top scene rounds around round stands
 
-    pub place : (b : Block) → runs.StandsIn [] (core_of (program_seen scene.program.now)).phases (loops_of rounds) b → IsPlaceTold scene around plan rounds
+    pub place : (b : Block) → runs.StandsIn [] (core_of (program_seen scene.program.now)).phases (loops_round rounds) b → IsPlaceTold scene around plan rounds
     place b here = record { tells = tells; top = top; told = rounds_known scene count plan h.order h.kinds rounds b h.ready counting here; table = h.table }
 
     pub stands_so : (block : ℕ) (sites : ℕ → Option BlockSite) → KeepsShares (block_of plan block sites) scene → StandsSo (block_of plan block sites) scene count around
@@ -157,20 +157,20 @@ module _ (scene : Scene) (count : ℕ) (plan : PlainPlan) (final : Made) (h : Is
     straight_sound =
         placed_straights_are_sound scene s.made.around plan rounds s.located h.ready
         (place rounds s.made.around s.made.round s.made.stands_in counting (commands (core_commands (known_in scene) s.located))
-        (run_here scene h.ways (loops_of rounds) (commands (core_commands (known_in scene) s.located))
-        (straight_run (known_in scene) (phases_of (program_seen scene.program.now)) [] (loops_of rounds) s.located s.placed)))
+        (run_here scene h.ways (loops_round rounds) (commands (core_commands (known_in scene) s.located))
+        (straight_run (known_in scene) (phases_of (program_seen scene.program.now)) [] (loops_round rounds) s.located s.placed)))
         s.placed
 
     pub straight_found : HasStraight (phases_of (program_seen scene.program.now) ++ idle_phases_of (program_seen scene.program.now)) s.located
     straight_found =
         straight_either (phases_of (program_seen scene.program.now)) (idle_phases_of (program_seen scene.program.now)) s.located
-        (inl (straight_there (known_in scene) (phases_of (program_seen scene.program.now)) [] (loops_of rounds) s.located s.placed))
+        (inl (straight_there (known_in scene) (phases_of (program_seen scene.program.now)) [] (loops_round rounds) s.located s.placed))
 
     pub straight_all : AllStand scene s.located
     straight_all = each_of (λ (c : Located). StandsAmong 0 (trace (program_seen scene.program.now)) c) s.located (λ c g. straight_stands (program_seen scene.program.now) s.located c straight_found g)
 
     pub straight_reach : AllByRecursion (λ (c : Located). StoresReach c.command) s.located
-    straight_reach = (ready_scenes_are_told scene h.ready h.scopes).stores (loops_of rounds) s.located s.placed
+    straight_reach = (ready_scenes_are_told scene h.ready h.scopes).stores (loops_round rounds) s.located s.placed
 
     pub straight_names : AllByRecursion (λ (c : Located). IsKeptAction (known_in scene) c.command) s.located
     straight_names =
@@ -178,7 +178,7 @@ module _ (scene : Scene) (count : ℕ) (plan : PlainPlan) (final : Made) (h : Is
         (straight_named (known_in scene) (phases_of (program_seen scene.program.now)) s.located
         (phases_named (known_in scene) nothing_around 0 (program_seen scene.program.now).body
         (subst (λ (known : Known). IsKeptAction known (program_seen scene.program.now).body) (known_here scene h.ways) (ready_kept (program_seen scene.program.now) h.ready)))
-        (straight_there (known_in scene) (phases_of (program_seen scene.program.now)) [] (loops_of rounds) s.located s.placed))
+        (straight_there (known_in scene) (phases_of (program_seen scene.program.now)) [] (loops_round rounds) s.located s.placed))
 
     straight_sited : AreSited scene s.made.around (λ number. any_makes number s.located) (block_sites scene s.made.around s.located s.made.before s.made.between s.made.made)
     straight_sited = blocks_are_sited scene s.made.around s.located s.made.before s.made.between s.made.made straight_names straight_all
@@ -217,14 +217,14 @@ module _ (scene : Scene) (count : ℕ) (plan : PlainPlan) (final : Made) (h : Is
     test_sound =
         placed_tests_are_sound scene s.made.around plan rounds s.tested s.term h.ready
         (place rounds s.made.around s.made.round s.made.stands_in counting (tests (core_test (known_in scene) s.tested))
-        (run_here scene h.ways (loops_of rounds) (tests (core_test (known_in scene) s.tested))
-        (test_run (known_in scene) (phases_of (program_seen scene.program.now)) [] (loops_of rounds) s.tested s.placed)))
+        (run_here scene h.ways (loops_round rounds) (tests (core_test (known_in scene) s.tested))
+        (test_run (known_in scene) (phases_of (program_seen scene.program.now)) [] (loops_round rounds) s.tested s.placed)))
         s.placed s.term_is
 
     pub test_found : HasTest (phases_of (program_seen scene.program.now) ++ idle_phases_of (program_seen scene.program.now)) s.tested
     test_found =
         test_either (phases_of (program_seen scene.program.now)) (idle_phases_of (program_seen scene.program.now)) s.tested
-        (inl (test_there (known_in scene) (phases_of (program_seen scene.program.now)) [] (loops_of rounds) s.tested s.placed))
+        (inl (test_there (known_in scene) (phases_of (program_seen scene.program.now)) [] (loops_round rounds) s.tested s.placed))
 
     pub test_stand : StandsAmong 0 (trace (program_seen scene.program.now)) s.tested
     test_stand = test_stands (program_seen scene.program.now) s.tested test_found

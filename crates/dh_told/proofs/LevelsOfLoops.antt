@@ -5,12 +5,11 @@ use Rattle.std.proofs.lemmas.Bool.Decides.{nat_tests}
 use Rattle.dh_tree.specs.declared.trees.counters.Counter.{Counter}
 use Rattle.dh_meaning.specs.Core.{Turning}
 use Rattle.dh_meaning.specs.CoreOf.{Known}
-use Rattle.dh_plan.specs.Correspondence.{Round}
+use Rattle.dh_plan.specs.Correspondence.{Round, loops_round}
 use Rattle.dh_sound.specs.LoopsMatch.{EachMatches, LoopMatches, unrolled_loops}
 use Rattle.dh_expressions.specs.declared.paths.Level.{Level}
 use Rattle.dh_expressions.specs.Levels.{count_inside, levels_inside, spread_level}
 use Rattle.dh_gathering.specs.MadeBlocks.{AreWithin}
-use Rattle.dh_gathering.specs.PlacedPhases.{loops_round}
 use Rattle.dh_charged.specs.ChargedUses.{AreLevelsOf}
 
 -- What levels have that is the same however wide a step on them is.

@@ -6,7 +6,7 @@ use Rattle.std.proofs.lemmas.Bool.Decides.{nat_tests}
 use Rattle.dh_value.specs.declared.kinds.Kind.{Kind}
 use Rattle.dh_tree.specs.Memories.{same_entity}
 use Rattle.dh_sound.specs.Blocks.{factors}
-use Rattle.dh_plan.specs.Correspondence.{Round}
+use Rattle.dh_plan.specs.Correspondence.{Round, loops_round}
 use Rattle.dh_code.specs.Slots.{held_at}
 use Rattle.dh_expressions.specs.declared.paths.Level.{Level}
 use Rattle.dh_expressions.specs.declared.scenes.Scene.{Scene}
@@ -14,7 +14,6 @@ use Rattle.dh_expressions.specs.Levels.{count_inside, levels_inside, spread_leve
 use Rattle.dh_expressions.specs.ReachedBanks.{level_with}
 use Rattle.dh_expressions.proofs.ListPlaces.{some_same}
 use Rattle.dh_gathering.specs.MadeBlocks.{AreWithin}
-use Rattle.dh_gathering.specs.PlacedPhases.{loops_round}
 use Rattle.dh_typed_blocks.specs.ScenesTold.{AreRoundsTold}
 
 -- Marks: the iterator of a loop, and how many copies it has.

@@ -12,7 +12,7 @@ use Rattle.dh_meaning.specs.Phases.{Located, phases_of}
 use Rattle.dh_meaning.specs.Sites as source
 use Rattle.dh_meaning.specs.Sites.{in_arm}
 use Rattle.dh_meets.specs.SourceEvents.{Site, events, other_events, site_of, source_term_events, trace}
-use Rattle.dh_plan.specs.Correspondence.{Round}
+use Rattle.dh_plan.specs.Correspondence.{Round, loops_round}
 use Rattle.dh_plan.specs.PlainPlans.{PlainPlan}
 use Rattle.dh_sound.specs.PhaseFacts.{StandsAmong}
 use Rattle.dh_sound.specs.Trails.{EachAccess}
@@ -30,10 +30,9 @@ use Rattle.dh_laid.specs.BlockSites.{MadeEach}
 use Rattle.dh_gathering.specs.declared.blocks.Made.{Made}
 use Rattle.dh_gathering.specs.LoopCounters.{AreCounting}
 use Rattle.dh_gathering.specs.MadeBlocks.{IsStraightBlock, IsTestBlock}
-use Rattle.dh_gathering.specs.PlacedPhases.{loops_round}
 use Rattle.dh_phased.proofs.LoopsCounted.{loops_are_own}
 use Rattle.dh_phased.proofs.NodesTied.{nodes_tied}
-use Rattle.dh_typed_blocks.specs.SoundBlocks.{IsBehindViews, IsPlaceTold, loops_of}
+use Rattle.dh_typed_blocks.specs.SoundBlocks.{IsBehindViews, IsPlaceTold}
 use Rattle.dh_typed_blocks.proofs.KnownHere.{known_here}
 use Rattle.dh_used.specs.SourceSites.{AllStand}
 use Rattle.dh_told.proofs.CoreHere.{run_here}
@@ -85,8 +84,8 @@ module _ (scene : Scene) (count : ℕ) (plan : PlainPlan) (final : Made) (h : Is
     told_here : IsPlaceTold scene s.made.around plan rounds
     told_here =
         place scene count plan final h rounds s.made.around s.made.round s.made.stands_in counting (commands (core_commands (known_in scene) s.located))
-        (run_here scene h.ways (loops_of rounds) (commands (core_commands (known_in scene) s.located))
-        (straight_run (known_in scene) (phases_of (program_seen scene.program.now)) [] (loops_of rounds) s.located s.placed))
+        (run_here scene h.ways (loops_round rounds) (commands (core_commands (known_in scene) s.located))
+        (straight_run (known_in scene) (phases_of (program_seen scene.program.now)) [] (loops_round rounds) s.located s.placed))
 
     module _ (registers : List ℕ) (memories : List (List ℕ)) (turns : InTurns registers rounds) where
       each_keeps : (touched : ℕ → Bool) (ls : List Located) → AreSoundBy touched scene s.made.around plan rounds ls → AllStand scene ls → AllByRecursion (IsBehindViews (program_seen scene.program.now)) ls → CommandsKeep (step_of_block plan block registers memories) scene s.made.around.levels.now ls
@@ -135,8 +134,8 @@ module _ (scene : Scene) (count : ℕ) (plan : PlainPlan) (final : Made) (h : Is
     test_told : IsPlaceTold scene s.made.around plan rounds
     test_told =
         place scene count plan final h rounds s.made.around s.made.round s.made.stands_in counting (tests (core_test (known_in scene) s.tested))
-        (run_here scene h.ways (loops_of rounds) (tests (core_test (known_in scene) s.tested))
-        (test_run (known_in scene) (phases_of (program_seen scene.program.now)) [] (loops_of rounds) s.tested s.placed))
+        (run_here scene h.ways (loops_round rounds) (tests (core_test (known_in scene) s.tested))
+        (test_run (known_in scene) (phases_of (program_seen scene.program.now)) [] (loops_round rounds) s.tested s.placed))
 
     test_keeps : (registers : List ℕ) (memories : List (List ℕ)) → InTurns registers rounds → TermKeeps (step_of_block plan block registers memories) scene s.made.around.levels.now (λ e. ⊥) s.term
     test_keeps registers memories turns =

@@ -17,7 +17,7 @@ use Rattle.dh_plan.specs.declared.operations.Operation.{Operation}
 use Rattle.dh_plan.specs.declared.operations.OperationForm.{OperationForm}
 use Rattle.dh_plan.specs.declared.operations.OperationForm.TheVariants.{Compute, Set}
 use Rattle.dh_value.specs.declared.operators.Op.TheVariants.{Both}
-use Rattle.dh_plan.specs.Correspondence.{Round}
+use Rattle.dh_plan.specs.Correspondence.{Round, loops_round}
 use Rattle.dh_plan.specs.PlainPlans.{PlainPlan, operations_in}
 use Rattle.dh_plan.specs.SoundPlans.{IsOneOf, blocks_of, use_in}
 use Rattle.dh_sound.specs.LoopsMatch.{EachMatches, unrolled_loops}
@@ -43,7 +43,6 @@ use Rattle.dh_laid.proofs.SitesLaid.{along_reach}
 use Rattle.dh_blocks.specs.BlockMade.{IsTop}
 use Rattle.dh_gathering.specs.declared.blocks.Made.{Made}
 use Rattle.dh_gathering.specs.MadeBlocks.{AddsFlag, IsRoundBlock, IsStraightBlock, IsTestBlock, made_tie}
-use Rattle.dh_gathering.specs.PlacedPhases.{loops_round}
 use Rattle.dh_gathering.specs.PushedSets.{settings}
 use Rattle.dh_gathering.proofs.BlocksPlanned.{operations_are}
 use Rattle.dh_phased.proofs.RoundsTop.{rounds_are_top}

@@ -10,7 +10,7 @@ use Rattle.dh_meaning.specs.Phases.{Located, phases_of}
 use Rattle.dh_meaning.specs.Paths.{copies_in}
 use Rattle.dh_code.proofs.PathsInOrder.{length_paths}
 use Rattle.dh_plan.specs.declared.operations.Operation.{Operation}
-use Rattle.dh_plan.specs.Correspondence.{Round, paths_of_rounds}
+use Rattle.dh_plan.specs.Correspondence.{Round, paths_of_rounds, loops_round}
 use Rattle.dh_plan.specs.DoneProgram.{block_products, commands_products, has_products, term_products}
 use Rattle.dh_plan.specs.PlainPlans.{PlainPlan, operations_in}
 use Rattle.dh_expressions.specs.declared.drafts.Draft.{Draft}
@@ -26,7 +26,6 @@ use Rattle.dh_laid.proofs.ProductsOfCore.{terms_multiply}
 use Rattle.dh_blocks.proofs.RoundsTurned.{rounds_paths}
 use Rattle.dh_gathering.specs.declared.blocks.Made.{Made}
 use Rattle.dh_gathering.specs.MadeBlocks.{AddsFlag, IsRoundBlock, IsStraightBlock, IsTestBlock, made_tie}
-use Rattle.dh_gathering.specs.PlacedPhases.{loops_round}
 use Rattle.dh_gathering.specs.PushedSets.{settings}
 use Rattle.dh_gathering.proofs.BlocksPlanned.{operations_are}
 use Rattle.dh_phased.proofs.RoundsTop.{rounds_are_top}

@@ -20,13 +20,12 @@ use Rattle.dh_sound.specs.Blocks.{StandsIn, StandsInPhase, factors}
 use Rattle.dh_sound.specs.IteratorsAt.{HaveDepths}
 use Rattle.dh_sound.proofs.DepthsNamed.{depths_kept}
 use Rattle.dh_plan.specs.Blocks.{kind_at}
-use Rattle.dh_plan.specs.Correspondence.{Round}
+use Rattle.dh_plan.specs.Correspondence.{Round, loops_round}
 use Rattle.dh_plan.specs.PlainPlans.{PlainPlan}
 use Rattle.dh_runnable.proofs.ProgramsRun.{ready_runs}
 use Rattle.dh_expressions.specs.declared.scenes.Scene.{Scene}
 use Rattle.dh_blocks.specs.SlotsOfScene.{placing_in}
 use Rattle.dh_typed_blocks.specs.ScenesTold.{AreRoundsTold}
-use Rattle.dh_typed_blocks.specs.SoundBlocks.{loops_of}
 use Rattle.dh_gathering.specs.LoopCounters.{AreCounting, IsCounting}
 use Rattle.dh_gathering.specs.MadeBlocks.{counter_register}
 use Rattle.dh_gathering.specs.Registers.{IsRegisterKind}
@@ -68,7 +67,7 @@ abbrev some_or : {A : Type 0} → A → Option A → A
 some_or d None = d
 some_or d (Some x) = x
 
-depth_at : (p : Placing) (rounds : List Round) (index : ℕ) (r : Round) → AllByRecursion (HasDepth p) (loops_of rounds) → slice_get rounds index ≡ Some r → HasDepth p r.loop
+depth_at : (p : Placing) (rounds : List Round) (index : ℕ) (r : Round) → AllByRecursion (HasDepth p) (loops_round rounds) → slice_get rounds index ≡ Some r → HasDepth p r.loop
 depth_at p [] index r all e = absurd cc
 depth_at p (x ∷ rounds) zero r all e = subst (λ (y : Round). HasDepth p y.loop) (ap (λ (o : Option Round). some_or x o) e) all.0
 depth_at p (x ∷ rounds) (suc index) r all e = depth_at p rounds index r all.1 e
@@ -78,7 +77,7 @@ counting_at scene p [] index r all e = absurd cc
 counting_at scene p (x ∷ rounds) zero r all e = subst (λ (y : Round). IsCounting scene p y.loop × (y.counter ≡ counter_register scene y.loop)) (ap (λ (o : Option Round). some_or x o) e) all.0
 counting_at scene p (x ∷ rounds) (suc index) r all e = counting_at scene p rounds index r all.1 e
 
-inside_at : (round : List Turning) (rounds : List Round) (index : ℕ) (r : Round) → HaveDepths round (loops_of rounds) → slice_get rounds index ≡ Some r → r.loop.depth ≡ length (factors (round ++ map (λ (q : Round). q.loop) (take (suc index) rounds)))
+inside_at : (round : List Turning) (rounds : List Round) (index : ℕ) (r : Round) → HaveDepths round (loops_round rounds) → slice_get rounds index ≡ Some r → r.loop.depth ≡ length (factors (round ++ map (λ (q : Round). q.loop) (take (suc index) rounds)))
 inside_at round [] index r h e = absurd cc
 inside_at round (x ∷ rounds) zero r h e = subst (λ (y : Round). y.loop.depth ≡ length (factors (round ++ x.loop ∷ []))) (ap (λ (o : Option Round). some_or x o) e) h.0
 inside_at round (x ∷ rounds) (suc index) r h e =
@@ -97,12 +96,12 @@ module _ (scene : Scene) (count : ℕ) (plan : PlainPlan) (order : AreHeldInOrde
       low : {a b : ℕ} → a ≡ b → b ≤ a
       low e = omega (arith, e)
 
-  pub rounds_known : (rounds : List Round) (b : Block) → IsReady (program_seen scene.program.now) → AreCounting scene (placing_in scene) rounds → StandsIn [] (core_of (program_seen scene.program.now)).phases (loops_of rounds) b
+  pub rounds_known : (rounds : List Round) (b : Block) → IsReady (program_seen scene.program.now) → AreCounting scene (placing_in scene) rounds → StandsIn [] (core_of (program_seen scene.program.now)).phases (loops_round rounds) b
       → AreRoundsTold scene plan.registers rounds
   rounds_known rounds b ready counting stands index r at =
       let runs : IsRunnable (program_seen scene.program.now) = ready_runs (program_seen scene.program.now) ready in
       let c = counting_at scene (placing_in scene) rounds index r counting at in
-      let deep = depth_at (placing_of (program_seen scene.program.now)) rounds index r (depths_all (core_of (program_seen scene.program.now)).table (placing_of (program_seen scene.program.now)) [] (core_of (program_seen scene.program.now)).phases [] (loops_of rounds) b runs.phases tt stands) at in
+      let deep = depth_at (placing_of (program_seen scene.program.now)) rounds index r (depths_all (core_of (program_seen scene.program.now)).table (placing_of (program_seen scene.program.now)) [] (core_of (program_seen scene.program.now)).phases [] (loops_round rounds) b runs.phases tt stands) at in
       let kind = counter_kind r.loop c.0 in
       record {
         counter = c.0.counter;
@@ -112,7 +111,7 @@ module _ (scene : Scene) (count : ℕ) (plan : PlainPlan) (order : AreHeldInOrde
         count = c.0.turns;
         register_is = sym c.1;
         held_depth = ap (λ (held : List Held). (held_at held r.loop.iterator).depth) order.held ∙ deep;
-        depth = inside_at [] rounds index r ((depths_kept (program_seen scene.program.now) ready.entities).depths (loops_of rounds) b stands) at;
+        depth = inside_at [] rounds index r ((depths_kept (program_seen scene.program.now) ready.entities).depths (loops_round rounds) b stands) at;
         width = kind.0;
         kind_is = ap (λ (n : ℕ). kind_at plan.registers n) c.1 ∙ kind.1;
       }

@@ -5,7 +5,7 @@ use Rattle.std.specs.Prelude.{slice_set}
 use Rattle.std.proofs.lemmas.List.{length-replicate}
 use Rattle.dh_meaning.specs.Paths.{copies_in}
 use Rattle.dh_sound.specs.Blocks.{factors}
-use Rattle.dh_plan.specs.Correspondence.{Round}
+use Rattle.dh_plan.specs.Correspondence.{Round, loops_round}
 use Rattle.dh_plan.specs.PlainPlans.{PlainPlan}
 use Rattle.dh_expressions.specs.declared.scenes.Around.{Around}
 use Rattle.dh_expressions.specs.declared.scenes.Scene.{Scene}
@@ -17,7 +17,6 @@ use Rattle.dh_blocks.specs.SlotsOfScene.{HoldsVariables}
 use Rattle.dh_blocks.specs.TestMade.{flag_made}
 use Rattle.dh_blocks.proofs.VariablesPlaced.{are_placed}
 use Rattle.dh_gathering.specs.MadeBlocks.{IsRoundBlock}
-use Rattle.dh_gathering.specs.PlacedPhases.{loops_round}
 use Rattle.dh_phased.proofs.RoundsTop.{rounds_are_top}
 use Rattle.dh_reached.specs.ReachedBlocks.{AreUnused, StandsSpread}
 use Rattle.dh_told.proofs.CopiesOfPhases.{FewRound}

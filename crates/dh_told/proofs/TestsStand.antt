@@ -10,7 +10,7 @@ use Rattle.dh_meets.specs.SourceEvents.{SourceAccess, accesses_in, trace, with_i
 use Rattle.dh_sound.specs.PhaseFacts.{HasTest}
 use Rattle.dh_sound.proofs.LocatedSites.{test_first}
 use Rattle.dh_sound.proofs.SamePhase.{test_has_both}
-use Rattle.dh_plan.specs.Correspondence.{Round}
+use Rattle.dh_plan.specs.Correspondence.{Round, loops_round}
 use Rattle.dh_plan.specs.PlainPlans.{PlainPlan}
 use Rattle.dh_expressions.specs.declared.scenes.Scene.{Scene}
 use Rattle.dh_expressions.specs.Evaluated.{known_in}
@@ -21,7 +21,6 @@ use Rattle.dh_blocks.specs.TestMade.{flag_made}
 use Rattle.dh_gathering.specs.declared.blocks.Made.{Made}
 use Rattle.dh_gathering.specs.LoopCounters.{AreCounting}
 use Rattle.dh_gathering.specs.MadeBlocks.{IsTestBlock}
-use Rattle.dh_gathering.specs.PlacedPhases.{loops_round}
 use Rattle.dh_phased.proofs.BlocksMade.{test_is_made}
 use Rattle.dh_used.proofs.SharesOfProgram.{test_below}
 use Rattle.dh_used.proofs.SitesOfSource.{tests_are_sited}

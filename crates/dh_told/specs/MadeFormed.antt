@@ -23,7 +23,7 @@ use Rattle.dh_gathering.specs.Growing.{registers_given}
 use Rattle.dh_gathering.specs.MadeBlocks.{MadeStraight, MadeTest}
 
 -- a plan has the registers of what was made: those of variables, and behind them flags
-pub record HasRegisters (plan : PlainPlan) (final : Made) : Type 0 where
+pub record HasMadeRegisters (plan : PlainPlan) (final : Made) : Type 0 where
   pub registers : plan.registers ≡ final.registers
   pub given : registers_given final ≤ length final.registers
 
@@ -31,7 +31,7 @@ pub record HasRegisters (plan : PlainPlan) (final : Made) : Type 0 where
 abbrev pub MadeStraightsAreFormed : Type 0
 MadeStraightsAreFormed =
     (scene : Scene) (plan : PlainPlan) (count : ℕ) (final : Made) (rounds : List Round) (ls : List Located) (block : ℕ) (m : MadeStraight scene final rounds ls block)
-    → IsCut plan block m.before.draft m.after.draft → HasRegisters plan final
+    → IsCut plan block m.before.draft m.after.draft → HasMadeRegisters plan final
     → StandsSo (block_of plan block (block_sites scene m.around ls m.before m.between m.made)) scene count m.around
     → AllByRecursion (FitsBlock (block_of plan block (block_sites scene m.around ls m.before m.between m.made)) scene m.around rounds) ls
     → IsFormedBlock plan block
@@ -40,7 +40,7 @@ MadeStraightsAreFormed =
 abbrev pub MadeTestsAreFormed : Type 0
 MadeTestsAreFormed =
     (scene : Scene) (plan : PlainPlan) (count : ℕ) (final : Made) (rounds : List Round) (touched : ℕ → Bool) (n : ℕ) (t : Term) (flag block : ℕ) (m : MadeTest scene final rounds n t flag block)
-    → IsCut plan block m.before.draft m.after.draft → HasRegisters plan final
+    → IsCut plan block m.before.draft m.after.draft → HasMadeRegisters plan final
     → StandsSo (block_of plan block (test_sites scene m.around n t)) scene count m.around
     → IsSound (known_in scene) (table_of (program_seen scene.program.now)) (NamedHere (block_of plan block (test_sites scene m.around n t)) scene m.around rounds touched) t
     → IsTyped (known_in scene) (table_of (program_seen scene.program.now)) t → kind_written t ≡ kind.Bool

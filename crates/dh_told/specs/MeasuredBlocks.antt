@@ -31,7 +31,7 @@ use Rattle.dh_typed_laid.specs.SuitingBlocks.{FitsBlock, NamedHere, StandsSo}
 use Rattle.dh_gathering.specs.declared.blocks.Made.{Made}
 use Rattle.dh_gathering.specs.Growing.{registers_given}
 use Rattle.dh_gathering.specs.MadeBlocks.{MadeStraight, MadeTest}
-use Rattle.dh_told.specs.MadeFormed.{HasRegisters}
+use Rattle.dh_told.specs.MadeFormed.{HasMadeRegisters}
 
 -- A command that fits its block; if there is a reducer in it, then all names in it are other variables at each path, but
 -- what it assigns to.
@@ -42,7 +42,7 @@ pub record FitsAlone (x : FormedBlock) (scene : Scene) (around : Around) (rounds
 -- where the block of straight commands stands
 pub record StandsStraight (scene : Scene) (plan : PlainPlan) (count : ℕ) (final : Made) (rounds : List Round) (ls : List Located) (block : ℕ) (shared : ℕ → Option ℕ) (m : MadeStraight scene final rounds ls block) : Type 0 where
   pub cut : IsCut plan block m.before.draft m.after.draft
-  pub registers : HasRegisters plan final
+  pub registers : HasMadeRegisters plan final
   -- so many are of variables
   pub counted : count ≡ registers_given final
   pub stands : StandsSo (block_of plan block (block_sites scene m.around ls m.before m.between m.made)) scene count m.around
@@ -58,7 +58,7 @@ MadeStraightsAreLong =
 -- where the block of a test stands
 pub record StandsTest (scene : Scene) (plan : PlainPlan) (count : ℕ) (final : Made) (rounds : List Round) (n : ℕ) (t : Term) (flag block : ℕ) (shared : ℕ → Option ℕ) (m : MadeTest scene final rounds n t flag block) : Type 0 where
   pub cut : IsCut plan block m.before.draft m.after.draft
-  pub registers : HasRegisters plan final
+  pub registers : HasMadeRegisters plan final
   pub counted : count ≡ registers_given final
   pub stands : StandsSo (block_of plan block (test_sites scene m.around n t)) scene count m.around
   pub touched : ℕ → Bool

@@ -7,7 +7,7 @@ use Rattle.std.proofs.lemmas.Nat.{div-mul-add, mod-mul-add, div-add-mod'}
 use Rattle.std.proofs.Math.Nat.{mod-lt}
 use Rattle.dh_tree.proofs.BankElements.{row_below, column_below, place_below, quotient_below, in_bank_below}
 use Rattle.dh_tree.specs.declared.tables.Dim.{Dim}
-use Rattle.dh_tree.specs.Elements.{banks_of, rows_of, position_in_bank, BankRow, IsThere, place_at, LiesIn}
+use Rattle.dh_tree.specs.Elements.{banks_of, rows_of, position_in_bank, BankRow, HasBankRow, place_at, LiesIn}
 use Rattle.dh_tree.specs.Shapes.{IsDim}
 use Rattle.dh_tree.specs.Tables.{elements_of}
 
@@ -76,7 +76,7 @@ place_lies (d ∷ ds) position h l =
 same_spot : (first other : BankRow) → first.bank ≡ other.bank → first.row ≡ other.row → first ≡ other
 same_spot first other b r = λ i. record { bank = b i; row = r i }
 
-pub one_place : (dims : List Dim) (first other : BankRow) → AllByRecursion IsDim dims → IsThere dims first → IsThere dims other
+pub one_place : (dims : List Dim) (first other : BankRow) → AllByRecursion IsDim dims → HasBankRow dims first → HasBankRow dims other
     → place_at dims first ≡ place_at dims other → first ≡ other
 one_place dims first other h f o e =
     let same = one_bank_and_row dims first.bank first.row other.bank other.row h f.bank f.row o.bank o.row e in

@@ -12,7 +12,7 @@ use Rattle.dh_tree.specs.Seen.{counts_seen}
 use Rattle.dh_tree.specs.Memories.{Memory, same_entity, number_in, form_locals}
 use Rattle.dh_tree.specs.declared.trees.counters.Counter.{Counter}
 use Rattle.dh_tree.specs.Counters.{counters, form_counters, other_counters, counter_in}
-use Rattle.dh_tree.specs.Collected.{memory_found, all_found, counter_of, AreKept, AreCounted}
+use Rattle.dh_tree.specs.Collected.{memory_found, found_memories, counter_of_header, AreKept, AreCountersByEntity}
 
 -- what is looked up of an entity that had this before, where something stands for it or does not
 abbrev pub one_more : {A : Type 0} → Option A → Bool → A → Option A
@@ -130,19 +130,19 @@ some_number None false e t = cc
 some_number (Some n) b e t = (n, refl)
 
 -- a local memory is found
-pub memory_more : (found new : List Found) (f : Found) (seen form : ActionForm) → new ≡ found ++ f ∷ [] → seen ≡ form → form_locals form ≡ memory_found f ∷ [] → all_found new ≡ all_found found ++ form_locals seen
+pub memory_more : (found new : List Found) (f : Found) (seen form : ActionForm) → new ≡ found ++ f ∷ [] → seen ≡ form → form_locals form ≡ memory_found f ∷ [] → found_memories new ≡ found_memories found ++ form_locals seen
 memory_more found new f seen form e s l =
-    ap all_found e ∙ (map-append memory_found found (f ∷ []) ∙ ap (λ ms. all_found found ++ ms) (sym (ap form_locals s ∙ l)))
+    ap found_memories e ∙ (map-append memory_found found (f ∷ []) ∙ ap (λ ms. found_memories found ++ ms) (sym (ap form_locals s ∙ l)))
 
 -- a loop is found, and those inside it
 pub loop_more : (old pushed inner all : List Counter) (seen : ActionForm) (header : LoopHeader) (body : Action) (combine : MaybeAction)
-    → seen ≡ counts_seen header body combine → pushed ≡ old ++ counter_of header ∷ [] → inner ≡ pushed ++ counters body → all ≡ inner ++ other_counters combine → all ≡ old ++ form_counters seen
+    → seen ≡ counts_seen header body combine → pushed ≡ old ++ counter_of_header header ∷ [] → inner ≡ pushed ++ counters body → all ≡ inner ++ other_counters combine → all ≡ old ++ form_counters seen
 loop_more old pushed inner all seen header body combine s p f g =
     g ∙ (ap (λ l. l ++ other_counters combine) (f ∙ ap (λ l. l ++ counters body) p)
-    ∙ (ap (λ l. l ++ other_counters combine) (append_assoc old (counter_of header ∷ []) (counters body))
+    ∙ (ap (λ l. l ++ other_counters combine) (append_assoc old (counter_of_header header ∷ []) (counters body))
     ∙ (append_assoc old _ (other_counters combine) ∙ ap (λ x. old ++ form_counters x) (sym s))))
 
 -- loops noted so far, and the next one
-pub noted_next : (found : List Counter) (slots : List (Option Counter)) (i : ℕ) (d : Counter) → i < length found → AreCounted (take i found ++ get_or found i d ∷ []) slots → AreCounted (take (i + 1) found) slots
+pub noted_next : (found : List Counter) (slots : List (Option Counter)) (i : ℕ) (d : Counter) → i < length found → AreCountersByEntity (take i found ++ get_or found i d ∷ []) slots → AreCountersByEntity (take (i + 1) found) slots
 noted_next found slots i d within h =
-    subst (λ (l : List Counter). AreCounted l slots) (sym (ap (λ n. take n found) (add-one i) ∙ take-suc found i d within)) h
+    subst (λ (l : List Counter). AreCountersByEntity l slots) (sym (ap (λ n. take n found) (add-one i) ∙ take-suc found i d within)) h

@@ -10,10 +10,10 @@ use Rattle.dh_tree.specs.declared.trees.expressions.Expr.{Expr}
 use Rattle.dh_tree.specs.declared.trees.expressions.ExprForm.TheVariants.{Number, Truth, Variable, Access, Physical, Binary, Cast}
 use Rattle.dh_tree.specs.declared.trees.expressions.ExprForm.TheBlock.{Row_of-Expr, end_of-Expr, more_of-Expr, items-the_row-Expr, hidden-the_row-Expr-0, items_hidden-the_row-Expr-0}
 use Rattle.dh_tree.specs.PlainTrees.{term, number, truth_value, named, accessed, in_bank, applied, converted, term_then}
-use Rattle.dh_tree.specs.Seen.{form_seen, row_seen, term_seen, terms}
+use Rattle.dh_tree.specs.Seen.{form_seen, term_row_seen, term_seen, terms}
 use mathlib.Core.Former.{Count}
 
-row_is : (n : Count) (k : Row_of-Expr n) → row_seen k ≡ terms (map term_seen (items-the_row-Expr n k))
+row_is : (n : Count) (k : Row_of-Expr n) → term_row_seen k ≡ terms (map term_seen (items-the_row-Expr n k))
 unfolding form_seen
 row_is _ end_of-Expr = refl
 row_is _ (more_of-Expr {n = n} place kind form rest) = ap (λ s. term_then (term place kind (form_seen form)) s) (row_is n rest)

@@ -19,16 +19,16 @@ use Rattle.dh_tree.specs.Seen.{declared_seen, action_seen, program_seen}
 abbrev pub memory_found : Found → Memory
 memory_found f = record { name = f.name.now; shape = f.shape.now; shape_places = f.shape_places.now; outside = f.outside }
 
-abbrev pub all_found : List Found → List Memory
-all_found fs = map memory_found fs
+abbrev pub found_memories : List Found → List Memory
+found_memories fs = map memory_found fs
 
 -- the loop with this header
-abbrev pub counter_of : LoopHeader → Counter
-counter_of h = record { entity = h.iterator.entity; low = h.low; high = h.high; factor = h.factor }
+abbrev pub counter_of_header : LoopHeader → Counter
+counter_of_header h = record { entity = h.iterator.entity; low = h.low; high = h.high; factor = h.factor }
 
 -- these memories are found behind those that were found before, where no memory was refused
 abbrev pub FindsMemories : {E : Type 0} → Result (Unit {0}) E → (old new : Vec Found Global) → List Memory → Type 0
-FindsMemories result old new memories = OnOk result (all_found new.items ≡ all_found old.items ++ memories)
+FindsMemories result old new memories = OnOk result (found_memories new.items ≡ found_memories old.items ++ memories)
 
 -- and so these loops
 abbrev pub FindsLoops : {E : Type 0} → Result (Unit {0}) E → (old new : Vec Counter Global) → List Counter → Type 0
@@ -54,28 +54,28 @@ abbrev pub AreKept : {A : Type 0} → (ℕ → Option A) → List (Option A) →
 AreKept lookup slots = (entity : ℕ) → entity < length slots → get_or slots entity None ≡ lookup entity
 
 -- of each entity the number of the memory that it is
-abbrev pub AreNumbered : List Memory → List (Option ℕ) → Type 0
-AreNumbered ms numbers = AreKept (λ entity. number_in ms (Some entity)) numbers
+abbrev pub AreNumbersByEntity : List Memory → List (Option ℕ) → Type 0
+AreNumbersByEntity ms numbers = AreKept (λ entity. number_in ms (Some entity)) numbers
 
 -- of each entity the loop of which it is the iterator
-abbrev pub AreCounted : List Counter → List (Option Counter) → Type 0
-AreCounted cs slots = AreKept (λ entity. counter_in cs (Some entity)) slots
+abbrev pub AreCountersByEntity : List Counter → List (Option Counter) → Type 0
+AreCountersByEntity cs slots = AreKept (λ entity. counter_in cs (Some entity)) slots
 
 -- the table of these memories, and the number of the memory that an entity is, of so many entities
 pub record HasTable (ms : List Memory) (entities : ℕ) (table : List MemEntry) (numbers : List (Option ℕ)) : Type 0 where
   pub entries : table ≡ map entry_of ms
   pub long : length numbers ≡ entities
-  pub numbered : AreNumbered ms numbers
+  pub numbered : AreNumbersByEntity ms numbers
 
 -- so many numbers, of each entity that of the memory that it is
 abbrev pub AreNumbersOf : List Memory → (entities : ℕ) → List (Option ℕ) → Type 0
-AreNumbersOf ms entities numbers = (length numbers ≡ entities) × AreNumbered ms numbers
+AreNumbersOf ms entities numbers = (length numbers ≡ entities) × AreNumbersByEntity ms numbers
 
 -- these loops among so many entities: of each entity that of which it is the iterator, where there is a loop; and
 -- where it is told, each has one copy of its body at most
 abbrev pub AreLoopsAmong : List Counter → (entities : ℕ) → Loops → Type 0
 AreLoopsAmong cs entities l =
-    ((cs ≡ [] → ⊥) → length l.by_entity.items ≡ entities) × (AreCounted cs l.by_entity.items × (IsTrue l.single → AreSingle cs))
+    ((cs ≡ [] → ⊥) → length l.by_entity.items ≡ entities) × (AreCountersByEntity cs l.by_entity.items × (IsTrue l.single → AreSingle cs))
 
 -- the loops of a tree; and where it is told, no place has more copies than the limit allows
 abbrev pub AreLoopsOf : Tree → Loops → Type 0
@@ -85,11 +85,11 @@ AreLoopsOf t l =
 -- where an entity is the next memory behind those that are numbered, and this is its number, it is numbered too
 abbrev pub NumbersNext : (entity : Option ℕ) → (number : ℕ) → (old new : List (Option ℕ)) → Type 0
 NumbersNext entity number old new =
-    (ms : List Memory) (m : Memory) → AreNumbered ms old → number ≡ length ms → entity ≡ m.name.entity → AreNumbered (ms ++ m ∷ []) new
+    (ms : List Memory) (m : Memory) → AreNumbersByEntity ms old → number ≡ length ms → entity ≡ m.name.entity → AreNumbersByEntity (ms ++ m ∷ []) new
 
 -- a loop is noted behind those that are noted
 abbrev pub CountsNext : Counter → (old new : List (Option Counter)) → Type 0
-CountsNext counter old new = (cs : List Counter) → AreCounted cs old → AreCounted (cs ++ counter ∷ []) new
+CountsNext counter old new = (cs : List Counter) → AreCountersByEntity cs old → AreCountersByEntity (cs ++ counter ∷ []) new
 
 -- the memories of a tree are collected
 abbrev pub IsCollected : Tree → Collected → Type 0

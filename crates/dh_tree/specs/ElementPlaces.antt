@@ -3,7 +3,7 @@
 use Rattle.std.specs.Prelude.{◌≡◌, ℕ, ◌<◌, true, List}
 use Rattle.std.specs.List.{AllByRecursion}
 use Rattle.dh_tree.specs.declared.tables.Dim.{Dim}
-use Rattle.dh_tree.specs.Elements.{banks_of, rows_of, bank_of, row_of, position_of, position_in_bank, is_within, BankRow, IsThere, place_at, LiesIn}
+use Rattle.dh_tree.specs.Elements.{banks_of, rows_of, bank_of, row_of, position_of, position_in_bank, is_within, BankRow, HasBankRow, place_at, LiesIn}
 use Rattle.dh_tree.specs.Shapes.{IsDim}
 use Rattle.dh_tree.specs.Tables.{elements_of}
 
@@ -28,4 +28,4 @@ PlacesLieInBanks dims = (position : ℕ) → AllByRecursion IsDim dims → posit
 -- and of no two
 abbrev pub PlacesTellRows : List Dim → Type 0
 PlacesTellRows dims =
-    (first other : BankRow) → AllByRecursion IsDim dims → IsThere dims first → IsThere dims other → place_at dims first ≡ place_at dims other → first ≡ other
+    (first other : BankRow) → AllByRecursion IsDim dims → HasBankRow dims first → HasBankRow dims other → place_at dims first ≡ place_at dims other → first ≡ other

@@ -43,7 +43,7 @@ pub record BankRow : Type 0 where
   pub row : ℕ
 
 -- it is one that a memory of these dimensions has
-pub record IsThere (dims : List Dim) (b : BankRow) : Type 0 where
+pub record HasBankRow (dims : List Dim) (b : BankRow) : Type 0 where
   pub bank : b.bank < banks_of dims
   pub row : b.row < rows_of dims
 
@@ -54,7 +54,7 @@ place_at dims b = position_in_bank dims b.bank b.row
 -- a place among all elements is that of a row of a bank
 pub record LiesIn (dims : List Dim) (position : ℕ) : Type 0 where
   pub lies : BankRow
-  pub there : IsThere dims lies
+  pub there : HasBankRow dims lies
   pub place : place_at dims lies ≡ position
 
 -- as many indices as dimensions, each below its size

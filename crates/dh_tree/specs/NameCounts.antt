@@ -1,5 +1,7 @@
 -- How many names a program declares.
 use Rattle.std.specs.Prelude.{ℕ, ◌+◌, ◌<◌, ◌^◌, List, [], ◌∷◌, length}
+use Rattle.dh_tree.specs.declared.trees.programs.Function.{Function}
+use Rattle.dh_tree.specs.Seen.{action_seen}
 use Rattle.dh_tree.specs.PlainTrees.{Action, action, ActionForm, lets, lets_memory, views, assigns, stores, reduces, calls, blocks, decides, repeats, counts, MaybeAction, no_action, one_action, Actions, no_actions, action_then, Groups, no_groups, group_then, Defined, Program}
 
 abbrev mutual
@@ -30,6 +32,10 @@ abbrev mutual
   pub declared_in_groups : Groups → ℕ
   declared_in_groups no_groups = 0
   declared_in_groups (group_then g rest) = declared_in_actions g + declared_in_groups rest
+
+-- those of a function of the code: its parameters, and what its body declares
+abbrev pub declared_by : Function → ℕ
+declared_by f = length f.parameters.items + declared_in (action_seen f.body)
 
 -- those of functions: their parameters, and what their bodies declare
 abbrev pub declared_in_functions : List Defined → ℕ

@@ -26,14 +26,14 @@ unfoldable mutual
   form_seen (Number negative value) = number negative value
   form_seen (Truth value) = truth_value value
   form_seen (Variable of) = named of
-  form_seen (Access' of shape row) = accessed of (row_seen row)
+  form_seen (Access' of shape row) = accessed of (term_row_seen row)
   form_seen (Physical' of bank bank_place p place kind form) = in_bank of bank bank_place (term place kind (form_seen form))
   form_seen (Binary' op p place kind left q place' kind' right) = applied op (term place kind (form_seen left)) (term place' kind' (form_seen right))
   form_seen (Cast' p place kind inner to) = converted (term place kind (form_seen inner)) to
 
-  pub row_seen : {m : _} → Row_of-Expr m → Terms
-  row_seen end_of-Expr = no_terms
-  row_seen (more_of-Expr place kind form rest) = term_then (term place kind (form_seen form)) (row_seen rest)
+  pub term_row_seen : {m : _} → Row_of-Expr m → Terms
+  term_row_seen end_of-Expr = no_terms
+  term_row_seen (more_of-Expr place kind form rest) = term_then (term place kind (form_seen form)) (term_row_seen rest)
 
 abbrev pub term_seen : Expr → Term
 term_seen e = term e.place e.kind (form_seen e.form)

@@ -13,7 +13,7 @@ use Rattle.dh_meaning.specs.CoreOf.{Known, known_of, core_commands, core_of, act
 use Rattle.dh_meaning.specs.Effects.{Block}
 use Rattle.dh_meaning.specs.Levels.{any_assigns}
 use Rattle.dh_meaning.specs.Phases.{Located}
-use Rattle.dh_plan.specs.Correspondence.{Round}
+use Rattle.dh_plan.specs.Correspondence.{Round, loops_round}
 use Rattle.dh_plan.specs.PlainPlans.{PlainPlan}
 use Rattle.dh_runnable.specs.ActionsRun.{table_known}
 use Rattle.dh_sound.specs.AssignsInside.{AssignsInside}
@@ -36,7 +36,7 @@ use Rattle.dh_blocks.specs.NamedVariables.{IsNamedHere}
 use Rattle.dh_blocks.specs.SoundCommands.{SoundAction}
 use Rattle.dh_blocks.specs.SoundTerms.{IsSound}
 use Rattle.dh_blocks.proofs.SoundMapped.{term_mapped}
-use Rattle.dh_typed_blocks.specs.SoundBlocks.{loops_of, IsPlaceTold, StraightSound, TestSound, ReadyBlocksAreSound}
+use Rattle.dh_typed_blocks.specs.SoundBlocks.{IsPlaceTold, StraightSound, TestSound, ReadyBlocksAreSound}
 use Rattle.dh_typed_blocks.proofs.BlocksFit.{block_fits}
 use Rattle.dh_typed_blocks.proofs.BlocksHolding.{StraightHolds, TestHolds}
 use Rattle.dh_typed_blocks.proofs.CommandsHere.{all_inside, all_here, folds_here}
@@ -83,18 +83,18 @@ module _ (scene : Scene) (around : Around) (plan : PlainPlan) (rounds : List Rou
   abbrev places : Placing
   places = placing_of (program_seen scene.program.now)
 
-  module _ (ready : IsReady p) (place : IsPlaceTold scene around plan rounds) (block : Block) (stands : StandsIn [] (core_of p).phases (loops_of rounds) block) where
+  module _ (ready : IsReady p) (place : IsPlaceTold scene around plan rounds) (block : Block) (stands : StandsIn [] (core_of p).phases (loops_round rounds) block) where
     same_table : plan.table ≡ table_known (known_in scene)
     same_table = place.table
 
-    pub straight_sound : (f : StraightHolds p (SimpleFits (known_of p) places) (JoinFits (known_of p) places) (loops_of rounds) block) → (s : StraightSound scene around plan rounds block) × (s.of ≡ f.of)
+    pub straight_sound : (f : StraightHolds p (SimpleFits (known_of p) places) (JoinFits (known_of p) places) (loops_round rounds) block) → (s : StraightSound scene around plan rounds block) × (s.of ≡ f.of)
     straight_sound f = (
       record {
         of = f.of;
         views = f.views;
         behind = f.behind;
-        joins = all_simple (known_of p) places (loops_of rounds) f.of.done f.holds;
-        typed = all_typed (known_in scene) places (loops_of rounds) f.of.done f.of.folds holds quiet;
+        joins = all_simple (known_of p) places (loops_round rounds) f.of.done f.holds;
+        typed = all_typed (known_in scene) places (loops_round rounds) f.of.done f.of.folds holds quiet;
         sound = record {
           first = subst (λ (table : List MemEntry). AllByRecursion (λ (c : Located). SoundAction scene around.levels.now table (IsNamedHere scene around.levels.now plan.registers rounds touched) (IsSeen scene around.levels.now) c.command) f.of.done)
               (sym same_table) (all_here scene around.levels.now rounds place.tells place.top.factors_are plan.registers touched names f.of.done holds);
@@ -108,53 +108,53 @@ module _ (scene : Scene) (around : Around) (plan : PlainPlan) (rounds : List Rou
         same : known_of p ≡ known_in scene
         same = known_here scene place.tells.ways
 
-        holds : EachOf (SimpleFits (known_in scene) places) (loops_of rounds) f.of.done
-        holds = subst (λ (k : Known). EachOf (SimpleFits k places) (loops_of rounds) f.of.done) same f.holds
+        holds : EachOf (SimpleFits (known_in scene) places) (loops_round rounds) f.of.done
+        holds = subst (λ (k : Known). EachOf (SimpleFits k places) (loops_round rounds) f.of.done) same f.holds
 
-        quiet : EachFold (JoinFits (known_in scene) places) (loops_of rounds) f.of.folds
-        quiet = subst (λ (k : Known). EachFold (JoinFits k places) (loops_of rounds) f.of.folds) same f.quiet
+        quiet : EachFold (JoinFits (known_in scene) places) (loops_round rounds) f.of.folds
+        quiet = subst (λ (k : Known). EachFold (JoinFits k places) (loops_round rounds) f.of.folds) same f.quiet
 
         touched : ℕ → Bool
         touched entity = any_assigns entity (core_commands (known_in scene) f.of.done)
 
-        spared : AreSpared touched (loops_of rounds)
-        spared = spared_commands (core_commands (known_in scene) f.of.done) (loops_of rounds) (spares_less (known_in scene) f.of.done f.of.folds (loops_of rounds)
-            (subst (λ (k : Known). Spares (core_commands k (f.of.done ++ f.of.folds)) (loops_of rounds)) same
-            ((ready_keeps p ready).keeps (loops_of rounds) (core_commands (known_of p) (f.of.done ++ f.of.folds)) (subst (λ (b : Block). StandsIn [] (core_of p).phases (loops_of rounds) b) f.of.is stands))))
+        spared : AreSpared touched (loops_round rounds)
+        spared = spared_commands (core_commands (known_in scene) f.of.done) (loops_round rounds) (spares_less (known_in scene) f.of.done f.of.folds (loops_round rounds)
+            (subst (λ (k : Known). Spares (core_commands k (f.of.done ++ f.of.folds)) (loops_round rounds)) same
+            ((ready_keeps p ready).keeps (loops_round rounds) (core_commands (known_of p) (f.of.done ++ f.of.folds)) (subst (λ (b : Block). StandsIn [] (core_of p).phases (loops_round rounds) b) f.of.is stands))))
 
-        inside : (entity : ℕ) → touched entity ≡ true → length (factors (loops_of rounds)) ≤ depth_bound (binding_in (known_in scene).bindings entity)
+        inside : (entity : ℕ) → touched entity ≡ true → length (factors (loops_round rounds)) ≤ depth_bound (binding_in (known_in scene).bindings entity)
         inside entity t =
-            touched_deep (known_in scene) (length (factors (loops_of rounds))) entity (core_commands (known_in scene) f.of.done)
-            (commands_deep (known_in scene) (length (factors (loops_of rounds))) f.of.done (all_inside (known_in scene) places (loops_of rounds) f.of.done holds)) t
+            touched_deep (known_in scene) (length (factors (loops_round rounds))) entity (core_commands (known_in scene) f.of.done)
+            (commands_deep (known_in scene) (length (factors (loops_round rounds))) f.of.done (all_inside (known_in scene) places (loops_round rounds) f.of.done holds)) t
 
-        names : (r : Ref) (k : Kind) → IsNamedIn (known_in scene) places (loops_of rounds) r k → IsNamedHere scene around.levels.now plan.registers rounds touched r k
+        names : (r : Ref) (k : Kind) → IsNamedIn (known_in scene) places (loops_round rounds) r k → IsNamedHere scene around.levels.now plan.registers rounds touched r k
         names = named_here scene around.levels.now rounds place.tells place.top.factors_are plan.registers place.told touched spared inside
 
-    pub test_sound : (f : TestHolds p (SimpleFits (known_of p) places) (JoinFits (known_of p) places) (loops_of rounds) block) → (s : TestSound scene around plan rounds block) × (s.of ≡ f.of)
+    pub test_sound : (f : TestHolds p (SimpleFits (known_of p) places) (JoinFits (known_of p) places) (loops_round rounds) block) → (s : TestSound scene around plan rounds block) × (s.of ≡ f.of)
     test_sound f = (
       record {
         of = f.of;
-        typed = λ t e. (test_fits (known_in scene) places (loops_of rounds) f.of.tested.command t e holds).0.1;
+        typed = λ t e. (test_fits (known_in scene) places (loops_round rounds) f.of.tested.command t e holds).0.1;
         sound = λ t e.
-            let fits = test_fits (known_in scene) places (loops_of rounds) f.of.tested.command t e holds in
+            let fits = test_fits (known_in scene) places (loops_round rounds) f.of.tested.command t e holds in
             record {
               sound = subst (λ (table : List MemEntry). IsSound (known_in scene) table (IsNamedHere scene around.levels.now plan.registers rounds (λ entity. false)) t) (sym same_table)
-                  (term_mapped (known_in scene) (table_known (known_in scene)) (IsNamedIn (known_in scene) places (loops_of rounds)) (IsNamedHere scene around.levels.now plan.registers rounds (λ entity. false)) names t fits.0.0);
+                  (term_mapped (known_in scene) (table_known (known_in scene)) (IsNamedIn (known_in scene) places (loops_round rounds)) (IsNamedHere scene around.levels.now plan.registers rounds (λ entity. false)) names t fits.0.0);
               kind_is = fits.1;
             };
       },
       refl,
     )
       where
-        holds : Fits (known_in scene) places (loops_of rounds) f.of.tested.command
-        holds = subst (λ (k : Known). Fits k places (loops_of rounds) f.of.tested.command) (known_here scene place.tells.ways) f.holds.1
+        holds : Fits (known_in scene) places (loops_round rounds) f.of.tested.command
+        holds = subst (λ (k : Known). Fits k places (loops_round rounds) f.of.tested.command) (known_here scene place.tells.ways) f.holds.1
 
-        names : (r : Ref) (k : Kind) → IsNamedIn (known_in scene) places (loops_of rounds) r k → IsNamedHere scene around.levels.now plan.registers rounds (λ entity. false) r k
-        names = named_here scene around.levels.now rounds place.tells place.top.factors_are plan.registers place.told (λ entity. false) (spared_test (loops_of rounds)) (λ entity t. absurd cc)
+        names : (r : Ref) (k : Kind) → IsNamedIn (known_in scene) places (loops_round rounds) r k → IsNamedHere scene around.levels.now plan.registers rounds (λ entity. false) r k
+        names = named_here scene around.levels.now rounds place.tells place.top.factors_are plan.registers place.told (λ entity. false) (spared_test (loops_round rounds)) (λ entity t. absurd cc)
 
   pub blocks_sound : ReadyBlocksAreSound scene around plan rounds
   blocks_sound ready place block stands =
-      elim (block_fits p ready (ready_few p ready) (ready_assigns p ready) (ready_plain p ready) (loops_of rounds) block stands) [
+      elim (block_fits p ready (ready_few p ready) (ready_assigns p ready) (ready_plain p ready) (loops_round rounds) block stands) [
         | inl f ↦ inl (straight_sound ready place block stands f).0
         | inr f ↦ inr (test_sound ready place block stands f).0
       ]

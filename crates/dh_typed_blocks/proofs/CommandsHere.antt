@@ -15,7 +15,7 @@ use Rattle.dh_meaning.specs.Core.{Turning}
 use Rattle.dh_meaning.specs.CoreOf.{Known, depth_of, entity_number, action_form_of, kind_of, turning_of, way_of}
 use Rattle.dh_meaning.specs.Phases.{Located, turn_count}
 use Rattle.dh_meaning.specs.Ways.{Hidden, hidden_in}
-use Rattle.dh_plan.specs.Correspondence.{Round}
+use Rattle.dh_plan.specs.Correspondence.{Round, loops_round}
 use Rattle.dh_runnable.specs.ActionsRun.{table_known}
 use Rattle.dh_sound.specs.AssignsInside.{AllAssignInside, AssignsInside, KeepsInside, OtherAssignsInside, GroupsAssignInside, PartAssignsInside}
 use Rattle.dh_sound.specs.Blocks.{factors}
@@ -34,7 +34,6 @@ use Rattle.dh_blocks.specs.SoundCommands.{CanHold, CanKeep, CanKeepFrom, IsOwnOf
 use Rattle.dh_blocks.proofs.SoundMapped.{action_mapped}
 use Rattle.dh_typed_blocks.specs.PlainPrograms.{IsPlainTarget, IsWholeTerm}
 use Rattle.dh_typed_blocks.specs.ScenesTold.{TellsScene}
-use Rattle.dh_typed_blocks.specs.SoundBlocks.{loops_of}
 use Rattle.dh_typed_blocks.proofs.Fitting.{IsNamedIn, IsTargetIn, KeepsFits, KeptFits, kept_at, FoldFits, Fits, OtherFits, GroupsFit, PartFits}
 use Rattle.dh_typed_blocks.proofs.FittingParts.{SimpleFits, JoinFits}
 use Rattle.dh_typed_blocks.proofs.NamesHere.{long_is, seen_here, full_here}
@@ -105,12 +104,12 @@ module _ (known : Known) (p : Placing) where
   all_inside ts (c ∷ cs) h = (fits_inside c.command ts h.0.0 h.0.1, all_inside ts cs h.1)
 
 -- Commands.
-module _ (scene : Scene) (levels : List Level) (rounds : List Round) (tells : TellsScene scene) (top : level_factors levels ≡ factors (loops_of rounds)) where
+module _ (scene : Scene) (levels : List Level) (rounds : List Round) (tells : TellsScene scene) (top : level_factors levels ≡ factors (loops_round rounds)) where
   abbrev places : Placing
   places = placing_of (program_seen scene.program.now)
 
   abbrev Named : Ref → Kind → Type 0
-  Named = IsNamedIn (known_in scene) places (loops_of rounds)
+  Named = IsNamedIn (known_in scene) places (loops_round rounds)
 
   abbrev held_kind : Ref → Kind
   held_kind r = (held_at scene.held.now (entity_number r.entity)).kind
@@ -118,24 +117,24 @@ module _ (scene : Scene) (levels : List Level) (rounds : List Round) (tells : Te
   kind_same : (r : Ref) → kind_of (known_in scene) r ≡ held_kind r
   kind_same r = sym (tells.kind (entity_number r.entity))
 
-  own_here : (r : Ref) → IsTargetIn (known_in scene) places (loops_of rounds) (length (factors (loops_of rounds))) r → IsOwnOf scene levels (entity_number r.entity)
+  own_here : (r : Ref) → IsTargetIn (known_in scene) places (loops_round rounds) (length (factors (loops_round rounds))) r → IsOwnOf scene levels (entity_number r.entity)
   own_here r h = record { seen = seen_here scene levels rounds tells top r h.inside h.plain; full = full_here scene levels rounds tells top r h }
 
   holds_here : (r : Ref) (t : Term) → CanHold (kind_of (known_in scene) r) t → CanHold (held_kind r) t
   holds_here r t h = subst (λ (k : Kind). CanHold k t) (kind_same r) h
 
   -- what a view keeps
-  kept_here : (depth first : ℕ) (os : List Term) → KeptFits (known_in scene) places (loops_of rounds) depth first os → CanKeepFrom scene levels (table_known (known_in scene)) Named depth first os
+  kept_here : (depth first : ℕ) (os : List Term) → KeptFits (known_in scene) places (loops_round rounds) depth first os → CanKeepFrom scene levels (table_known (known_in scene)) Named depth first os
   kept_here depth first [] h = tt
   kept_here depth first (o ∷ os) h = ((own_here (kept_at first) h.0.0, (h.0.1.0, holds_here (kept_at first) o (λ e. sym h.0.1.1 ∙ e))), kept_here depth (suc first) os h.1)
 
-  view_here : (hs : List Hidden) (os : List Term) → AreSound (known_in scene) (table_known (known_in scene)) Named (terms os) → KeepsFits (known_in scene) places (loops_of rounds) hs os → CanKeep scene levels (table_known (known_in scene)) Named hs os
+  view_here : (hs : List Hidden) (os : List Term) → AreSound (known_in scene) (table_known (known_in scene)) Named (terms os) → KeepsFits (known_in scene) places (loops_round rounds) hs os → CanKeep scene levels (table_known (known_in scene)) Named hs os
   view_here hs [] s h = tt
   view_here [] (o ∷ os) s h = absurd h
   view_here (x ∷ hs) (o ∷ os) s h = (s, kept_here x.depth x.entity (o ∷ os) h)
 
   mutual
-    pub action_here : (Folds : ℕ → Type 0) (a : Action) → FoldsInJoins a → Fits (known_in scene) places (loops_of rounds) a → SoundAction scene levels (table_known (known_in scene)) Named Folds a
+    pub action_here : (Folds : ℕ → Type 0) (a : Action) → FoldsInJoins a → Fits (known_in scene) places (loops_round rounds) a → SoundAction scene levels (table_known (known_in scene)) Named Folds a
     action_here Folds (action id place (lets name declared None)) s h =
         (own_here name h.0, record { sized = subst IsKind (kind_same name) h.0.sized; kind_is = h.1 ∙ kind_same name })
     action_here Folds (action id place (lets name declared (Some t))) s h = (h.0.0, (own_here name h.1.0, holds_here name t h.1.1))
@@ -150,15 +149,15 @@ module _ (scene : Scene) (levels : List Level) (rounds : List Round) (tells : Te
     action_here Folds (action id place (repeats test body)) s h = tt
     action_here Folds (action id place (counts iterator declared low high factor body combine combine_place)) s h = tt
 
-    other_here : (Folds : ℕ → Type 0) (m : MaybeAction) → OtherFoldsInJoins m → OtherFits (known_in scene) places (loops_of rounds) m → SoundOther scene levels (table_known (known_in scene)) Named Folds m
+    other_here : (Folds : ℕ → Type 0) (m : MaybeAction) → OtherFoldsInJoins m → OtherFits (known_in scene) places (loops_round rounds) m → SoundOther scene levels (table_known (known_in scene)) Named Folds m
     other_here Folds no_action s h = tt
     other_here Folds (one_action a) s h = action_here Folds a s h
 
-    groups_here : (Folds : ℕ → Type 0) (gs : Groups) → GroupsFoldInJoins gs → GroupsFit (known_in scene) places (loops_of rounds) gs → SoundGroups scene levels (table_known (known_in scene)) Named Folds gs
+    groups_here : (Folds : ℕ → Type 0) (gs : Groups) → GroupsFoldInJoins gs → GroupsFit (known_in scene) places (loops_round rounds) gs → SoundGroups scene levels (table_known (known_in scene)) Named Folds gs
     groups_here Folds no_groups s h = tt
     groups_here Folds (group_then part rest) s h = (part_here Folds part s.0 h.0, groups_here Folds rest s.1 h.1)
 
-    part_here : (Folds : ℕ → Type 0) (part : Actions) → PartFoldsInJoins part → PartFits (known_in scene) places (loops_of rounds) part → SoundPart scene levels (table_known (known_in scene)) Named Folds part
+    part_here : (Folds : ℕ → Type 0) (part : Actions) → PartFoldsInJoins part → PartFits (known_in scene) places (loops_round rounds) part → SoundPart scene levels (table_known (known_in scene)) Named Folds part
     part_here Folds no_actions s h = tt
     part_here Folds (action_then a rest) s h = (action_here Folds a s.0 h.0, part_here Folds rest s.1 h.1)
 
@@ -167,7 +166,7 @@ module _ (scene : Scene) (levels : List Level) (rounds : List Round) (tells : Te
     abbrev Whole : Ref → Kind → Type 0
     Whole r k = IsNamedHere scene levels kinds rounds (λ entity. true) r k
 
-    whole_name : (r : Ref) (k : Kind) → Named r k → IsPlainTarget (known_in scene) r → length (factors (loops_of rounds)) ≤ depth_of (known_in scene) r → Whole r k
+    whole_name : (r : Ref) (k : Kind) → Named r k → IsPlainTarget (known_in scene) r → length (factors (loops_round rounds)) ≤ depth_of (known_in scene) r → Whole r k
     whole_name r k h plain full = inl (record {
       is = h.is;
       seen = seen_here scene levels rounds tells top r h.inside plain;
@@ -176,7 +175,7 @@ module _ (scene : Scene) (levels : List Level) (rounds : List Round) (tells : Te
       free = inr (subst (λ (n : ℕ). n ≤ depth_of (known_in scene) r) (sym (long_is scene levels rounds tells top)) full);
     })
 
-    whole_term : (t : Term) → IsWholeTerm (known_in scene) (length (factors (loops_of rounds))) t → IsSound (known_in scene) (table_known (known_in scene)) Named t → IsSound (known_in scene) (table_known (known_in scene)) Whole t
+    whole_term : (t : Term) → IsWholeTerm (known_in scene) (length (factors (loops_round rounds))) t → IsSound (known_in scene) (table_known (known_in scene)) Named t → IsSound (known_in scene) (table_known (known_in scene)) Whole t
     whole_term (term place k (named r)) w s = (whole_name r (kind_or_first k) s.0 w.0 w.1, s.1)
     whole_term (term place k (number negative x)) w s = elim w [ ]
     whole_term (term place k (truth_value x)) w s = elim w [ ]
@@ -185,10 +184,10 @@ module _ (scene : Scene) (levels : List Level) (rounds : List Round) (tells : Te
     whole_term (term place k (applied o l r)) w s = elim w [ ]
     whole_term (term place k (converted t to)) w s = elim w [ ]
 
-    fold_here : (a : Action) → IsReducer (JoinFits (known_in scene) places) (loops_of rounds) (action_form_of a)
+    fold_here : (a : Action) → IsReducer (JoinFits (known_in scene) places) (loops_round rounds) (action_form_of a)
         → SoundAction scene levels (table_known (known_in scene)) Whole (IsSeen scene levels) a
     fold_here (action id place (reduces r o t)) h =
-        let fits : FoldFits (known_in scene) places (loops_of rounds) (reduces r o t) = h.1 in (
+        let fits : FoldFits (known_in scene) places (loops_round rounds) (reduces r o t) = h.1 in (
           (whole_term t fits.1.0.1 fits.0.0.0, seen_here scene levels rounds tells top r fits.0.1.inside fits.0.1.plain),
           record {
             operator = fits.1.0.0;
@@ -208,13 +207,13 @@ module _ (scene : Scene) (levels : List Level) (rounds : List Round) (tells : Te
     fold_here (action id place (repeats test body)) h = elim h [ ]
     fold_here (action id place (counts iterator declared low high factor body combine combine_place)) h = elim h [ ]
 
-    pub folds_here : (cs : List Located) → EachFold (JoinFits (known_in scene) places) (loops_of rounds) cs
+    pub folds_here : (cs : List Located) → EachFold (JoinFits (known_in scene) places) (loops_round rounds) cs
         → AllByRecursion (λ (c : Located). SoundAction scene levels (table_known (known_in scene)) Whole (IsSeen scene levels) c.command) cs
     folds_here [] h = tt
     folds_here (c ∷ cs) h = (fold_here c.command h.0, folds_here cs h.1)
 
     -- straight commands, by what is known of names
-    pub all_here : (touched : ℕ → Bool) → ((r : Ref) (k : Kind) → Named r k → IsNamedHere scene levels kinds rounds touched r k) → (cs : List Located) → EachOf (SimpleFits (known_in scene) places) (loops_of rounds) cs
+    pub all_here : (touched : ℕ → Bool) → ((r : Ref) (k : Kind) → Named r k → IsNamedHere scene levels kinds rounds touched r k) → (cs : List Located) → EachOf (SimpleFits (known_in scene) places) (loops_round rounds) cs
         → AllByRecursion (λ (c : Located). SoundAction scene levels (table_known (known_in scene)) (IsNamedHere scene levels kinds rounds touched) (IsSeen scene levels) c.command) cs
     all_here touched to [] h = tt
     all_here touched to (c ∷ cs) h =

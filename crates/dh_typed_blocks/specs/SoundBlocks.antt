@@ -10,7 +10,7 @@ use Rattle.dh_meaning.specs.CoreOf.{core_of, action_form_of, test_of}
 use Rattle.dh_meaning.specs.Effects.{Block}
 use Rattle.dh_meaning.specs.Phases.{Located}
 use Rattle.dh_meets.specs.SourceEvents.{trace}
-use Rattle.dh_plan.specs.Correspondence.{Round}
+use Rattle.dh_plan.specs.Correspondence.{Round, loops_round}
 use Rattle.dh_plan.specs.PlainPlans.{PlainPlan}
 use Rattle.dh_sound.specs.BehindViews.{ActionBehind}
 use Rattle.dh_sound.specs.Blocks.{StandsIn}
@@ -25,9 +25,6 @@ use Rattle.dh_blocks.specs.TestMade.{IsSoundTest}
 use Rattle.dh_typed_blocks.specs.ScenesTold.{TellsScene, AreRoundsTold}
 use Rattle.dh_typed_blocks.specs.TypedTerms.{ActionTyped, IsTyped}
 
-abbrev pub loops_of : List Round → List Turning
-loops_of rounds = map (λ (r : Round). r.loop) rounds
-
 -- the scene, the loops round a block and the plan are of the program
 pub record IsPlaceTold (scene : Scene) (around : Around) (plan : PlainPlan) (rounds : List Round) : Type 0 where
   pub tells : TellsScene scene
@@ -41,7 +38,7 @@ IsBehindViews p c = (d : ℕ) × ((x : ℕ) × ((length p.entities ≤ x) × Act
 
 -- a block of straight commands is typed and sound: its reducers put variables together that are others in each copy
 pub record StraightSound (scene : Scene) (around : Around) (plan : PlainPlan) (rounds : List Round) (block : Block) : Type 0 where
-  pub of : OfStraight (program_seen scene.program.now) (loops_of rounds) block
+  pub of : OfStraight (program_seen scene.program.now) (loops_round rounds) block
   pub views : FollowsViews (program_seen scene.program.now) of.round [] (trace (program_seen scene.program.now)) of.done
   pub behind : AllByRecursion (IsBehindViews (program_seen scene.program.now)) (of.done ++ of.folds)
   pub joins : AllByRecursion (λ (c : Located). FoldsInJoins c.command) of.done
@@ -49,12 +46,12 @@ pub record StraightSound (scene : Scene) (around : Around) (plan : PlainPlan) (r
   pub sound : AreSoundHere scene around plan rounds of.done of.folds
 
 pub record TestSound (scene : Scene) (around : Around) (plan : PlainPlan) (rounds : List Round) (block : Block) : Type 0 where
-  pub of : OfTest (program_seen scene.program.now) (loops_of rounds) block
+  pub of : OfTest (program_seen scene.program.now) (loops_round rounds) block
   pub typed : (t : Term) → test_of (action_form_of of.tested.command) ≡ Some t → IsTyped (known_in scene) (table_of (program_seen scene.program.now)) t
   pub sound : (t : Term) → test_of (action_form_of of.tested.command) ≡ Some t → IsSoundTest scene around plan rounds t
 
 abbrev pub ReadyBlocksAreSound : (scene : Scene) (around : Around) (plan : PlainPlan) (rounds : List Round) → Type 0
 ReadyBlocksAreSound scene around plan rounds =
     IsReady (program_seen scene.program.now)
-    → IsPlaceTold scene around plan rounds → (block : Block) → StandsIn [] (core_of (program_seen scene.program.now)).phases (loops_of rounds) block
+    → IsPlaceTold scene around plan rounds → (block : Block) → StandsIn [] (core_of (program_seen scene.program.now)).phases (loops_round rounds) block
     → StraightSound scene around plan rounds block ⊎ TestSound scene around plan rounds block

@@ -18,8 +18,8 @@ use Rattle.dh_tree.proofs.TypedAgain.{typed_again}
 use Rattle.dh_tree.proofs.TypedNames.{names_kept}
 use Rattle.dh_tree.proofs.TypedEntities.{entities_kept}
 use Rattle.dh_tree.proofs.FirstBreaches.{none_is_kept, least_is_kept}
-use Rattle.dh_types.specs.Walks.{State, nothing_known, knows, Types, TypesFunctions}
-use Rattle.dh_types.specs.Programs.{FindsKinds, IsWalked, Settles, Answers}
+use Rattle.dh_types.specs.Walks.{TypingState, nothing_known, knows, Types, TypesFunctions}
+use Rattle.dh_types.specs.Programs.{FindsKinds, TypesTree, SettlesKinds, Answers}
 use Rattle.dh_types.proofs.FormsDone.{next_step}
 
 -- the kinds of parameters stay
@@ -30,10 +30,10 @@ signatures_kept facts (f ∷ fs) = ap (λ l. function_fact f ∷ l) (signatures_
 abbrev program : Program → List Defined → Action → Program
 program p fs b = record { decls = p.decls; functions = fs; body = b; entities = p.entities }
 
-abbrev state : Facts → Option Breach → State
+abbrev state : Facts → Option Breach → TypingState
 state facts least = record { facts = facts; least = least }
 
-module _ (p : Program) (s2 s3 s4 : State) (fs' : List Defined) (b' : Action) (start : s2 ≡ state (first_facts p) None) (functions : TypesFunctions s2 s3 p.functions fs') (body : Types s3 s4 p.body b') where
+module _ (p : Program) (s2 s3 s4 : TypingState) (fs' : List Defined) (b' : Action) (start : s2 ≡ state (first_facts p) None) (functions : TypesFunctions s2 s3 p.functions fs') (body : Types s3 s4 p.body b') where
   functions_are : fs' ≡ typed_functions (first_facts p) p.functions
   functions_are = functions.tree ∙ ap (λ s. typed_functions s.facts p.functions) start
 
@@ -60,7 +60,7 @@ module _ (p : Program) (s2 s3 s4 : State) (fs' : List Defined) (b' : Action) (st
       ∙ ap (λ q. least_of None (kind_breaches q)) program_is
 
 -- what is known before the first function
-known_first : (t : Tree) (s0 s1 s2 : State) (ds : List Decl) (fs : List code.Function) → s0 ≡ nothing_known → ds ≡ t.decls.items → fs ≡ t.functions.items
+known_first : (t : Tree) (s0 s1 s2 : TypingState) (ds : List Decl) (fs : List code.Function) → s0 ≡ nothing_known → ds ≡ t.decls.items → fs ≡ t.functions.items
     → s1 ≡ knows s0 (declared_facts (map declared_seen ds)) → s2 ≡ knows s1 (map function_fact (map defined_seen fs))
     → s2 ≡ state (first_facts (program_seen t)) None
 known_first t s0 s1 s2 ds fs start d f one two =
@@ -69,7 +69,7 @@ known_first t s0 s1 s2 ds fs start d f one two =
     ∙ ap (λ l. state (declared_facts (map declared_seen t.decls.items) ++ map function_fact (map defined_seen l)) None) f
 
 -- the walk over a program, from what its calls did
-pub walk_done : (t : Tree) (s0 s1 s2 s3 s4 : State) (ds : List Decl) (fs : List code.Function) (fs' : List Defined) (b' : Action) → s0 ≡ nothing_known → ds ≡ t.decls.items → fs ≡ t.functions.items
+pub walk_done : (t : Tree) (s0 s1 s2 s3 s4 : TypingState) (ds : List Decl) (fs : List code.Function) (fs' : List Defined) (b' : Action) → s0 ≡ nothing_known → ds ≡ t.decls.items → fs ≡ t.functions.items
     → s1 ≡ knows s0 (declared_facts (map declared_seen ds)) → s2 ≡ knows s1 (map function_fact (map defined_seen fs))
     → TypesFunctions s2 s3 (map defined_seen t.functions.items) fs' → Types s3 s4 (action_seen t.body) b' → FindsKinds (program_seen t) (program (program_seen t) fs' b') s4.least
 walk_done t s0 s1 s2 s3 s4 ds fs fs' b' start d f one two functions body =
@@ -77,11 +77,11 @@ walk_done t s0 s1 s2 s3 s4 ds fs fs' b' start d f one two functions body =
     record { tree = program_is (program_seen t) s2 s3 s4 fs' b' known functions body; least_kept = least_is (program_seen t) s2 s3 s4 fs' b' known functions body }
 
 -- a walk over the tree of a program is one over the program
-pub walked_as : (n t u : Tree) (least : Option Breach) → t ≡ n → IsWalked t u least → IsWalked n u least
-walked_as n t u least same walked = subst (λ x. IsWalked x u least) same walked
+pub walked_as : (n t u : Tree) (least : Option Breach) → t ≡ n → TypesTree t u least → TypesTree n u least
+walked_as n t u least same walked = subst (λ x. TypesTree x u least) same walked
 
 -- what holds of the tree behind the walk, and what is answered
-module _ (n u : Tree) (least : Option Breach) (walked : IsWalked n u least) where
+module _ (n u : Tree) (least : Option Breach) (walked : TypesTree n u least) where
   pub suits : least ≡ None → KeepsKinds (program_seen u)
   suits is = subst KeepsKinds (sym walked.tree) (none_is_kept (kind_breaches (typed (program_seen n))) (sym walked.least_kept ∙ is))
 
@@ -94,7 +94,7 @@ module _ (n u : Tree) (least : Option Breach) (walked : IsWalked n u least) wher
   pub has_kinds : HasKinds (program_seen u)
   has_kinds = subst HasKinds (sym walked.tree) (typed_again (program_seen n))
 
-  pub answered : (r : Result Typed PassFault) → Settles u least r → Answers (program_seen n) r
+  pub answered : (r : Result Typed PassFault) → SettlesKinds u least r → Answers (program_seen n) r
   answered (Ok t) is = ap (λ x. program_seen x) is ∙ walked.tree
   answered (Err (fault.Refused rule place)) is = least_is_kept (kind_breaches (typed (program_seen n))) (breach rule place) (sym walked.least_kept ∙ is)
   answered (Err fault.NoMemory) is = inr (none_is_kept (kind_breaches (typed (program_seen n))) (sym walked.least_kept ∙ is))

@@ -13,8 +13,8 @@ use Rattle.dh_tree.specs.declared.trees.programs.Tree.{Tree}
 use Rattle.dh_tree.specs.declared.trees.typed.Typed.{Typed}
 use Rattle.dh_tree.specs.Seen.{action_seen, declared_seen, formal_seen, defined_seen, program_seen}
 use Rattle.dh_tree.specs.NameCounts.{declared_in, declared_in_functions, names_declared}
-use Rattle.dh_types.specs.Walks.{State}
-use Rattle.dh_types.specs.Programs.{Settles}
+use Rattle.dh_types.specs.Walks.{TypingState}
+use Rattle.dh_types.specs.Programs.{SettlesKinds}
 use Rattle.dh_base.proofs.InPlace.{Unvisited}
 use Rattle.dh_tree.proofs.DeclaringParts.{in_left, in_right}
 
@@ -42,12 +42,12 @@ last_learns (Ok a) h p q = p h
 last_learns (Err e) h p q = q
 
 -- a last call that learns a fact
-pub last_fact : {P : Type 0} {s a : State} (b : State) (r : Result (Unit {0}) NoMemory) → s ≡ (if is_ok r then a else b) → (s ≡ a → P) → OnOk r P
+pub last_fact : {P : Type 0} {s a : TypingState} (b : TypingState) (r : Result (Unit {0}) NoMemory) → s ≡ (if is_ok r then a else b) → (s ≡ a → P) → OnOk r P
 last_fact b (Ok x) learns p = p learns
 last_fact b (Err e) learns p = tt
 
 -- a tree that is settled, but for want of memory
-pub unsettled : (t : Tree) (least : Option Breach) (r : Result Typed PassFault) → IsErr r × IsErrAnd r (λ e. e ≡ fault.NoMemory) → least ≡ None → Settles t least r
+pub unsettled : (t : Tree) (least : Option Breach) (r : Result Typed PassFault) → IsErr r × IsErrAnd r (λ e. e ≡ fault.NoMemory) → least ≡ None → SettlesKinds t least r
 unsettled t least (Ok a) h k = absurd (cc h.0)
 unsettled t least (Err e) h k = rw h.1 k
 

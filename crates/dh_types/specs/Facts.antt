@@ -43,9 +43,9 @@ abbrev pub parameter_kinds : List Parameter → List Kind
 parameter_kinds parameters = map (λ m. m.kind) (map formal_seen parameters)
 
 -- a breach that may lack, as a list of breaches
-abbrev pub listed : Option Breach → List Breach
-listed None = []
-listed (Some b) = b ∷ []
+abbrev pub listed_breach : Option Breach → List Breach
+listed_breach None = []
+listed_breach (Some b) = b ∷ []
 
 -- whether an expression is the name of a memory or a view
 abbrev pub is_memory : Option kinds.Fact → Bool

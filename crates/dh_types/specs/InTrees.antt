@@ -62,8 +62,8 @@ abbrev pub TypesSuffixes : List Fact → (old new : Vec (ℕ × Expr) Global) �
 TypesSuffixes facts old new = map factor_seen new.items ≡ map (typed_offset (facts_seen facts)) (map factor_seen old.items)
 
 -- a bare operand takes its kinds, and any other stays as it is
-abbrev pub Fills : List Fact → (bare : Bool) → (want : Option Kind) → (old new : Expr) → Type 0
-Fills facts bare want old new = term_seen new ≡ filled_if_bare (facts_seen facts) bare want (term_seen old)
+abbrev pub FillsBareOperand : List Fact → (bare : Bool) → (want : Option Kind) → (old new : Expr) → Type 0
+FillsBareOperand facts bare want old new = term_seen new ≡ filled_if_bare (facts_seen facts) bare want (term_seen old)
 
 -- what the place of a bare left operand asks for beside this right one, where no kind is wanted of the operation
 abbrev pub wanted_left : Op → (bare_right : Bool) → (right : Expr) → Option Kind

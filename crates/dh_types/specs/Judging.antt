@@ -13,7 +13,7 @@ use Rattle.dh_tree.specs.Seen.{placed, expressions_seen, all_terms_seen}
 use Rattle.dh_tree.specs.Kinds.{Facts, Takes, operands_breaches, access_breaches}
 use Rattle.dh_tree.specs.KindBreaches.{right_side_breaches, maybe_breaches, arguments_breaches, iterator_breaches, low_breaches, high_breaches}
 use Rattle.dh_types.specs.declared.facts.Fact.{Fact}
-use Rattle.dh_types.specs.Facts.{facts_seen, known_fact, listed}
+use Rattle.dh_types.specs.Facts.{facts_seen, known_fact, listed_breach}
 
 -- the least is kept of the breach that was kept and those that a rule finds here
 abbrev pub KeepsBy : {A : Type 0} → (rule : Facts → A → List Breach) → List Fact → (old new : Option Breach) → A → Type 0
@@ -37,8 +37,8 @@ bounds_breaches iterator kind low high =
 
 -- the breach that was found is that of operands of these kinds, if they break the rule on operations of this sort
 abbrev pub JudgesOperands : Takes → (left right : Place) → (kinds : Kind × Kind) → Option Breach → Type 0
-JudgesOperands sort left right kinds result = listed result ≡ operands_breaches sort left right kinds.0 kinds.1
+JudgesOperands sort left right kinds result = listed_breach result ≡ operands_breaches sort left right kinds.0 kinds.1
 
 -- the breach that was found is that at the name of an access with these indices, if it breaks a rule
 abbrev pub JudgesAccess : Option (Bor Fact) → Place → (indices : List Expr) → Option Breach → Type 0
-JudgesAccess fact place indices result = listed result ≡ access_breaches (known_fact fact) place (all_terms_seen indices)
+JudgesAccess fact place indices result = listed_breach result ≡ access_breaches (known_fact fact) place (all_terms_seen indices)

@@ -28,12 +28,12 @@ pub record FindsKinds (p q : Program) (least : Option Breach) : Type 0 where
   pub tree : q ≡ typed p
   pub least_kept : least ≡ least_of None (kind_breaches (typed p))
 
-abbrev pub IsWalked : (old new : Tree) → (least : Option Breach) → Type 0
-IsWalked old new least = FindsKinds (program_seen old) (program_seen new) least
+abbrev pub TypesTree : (old new : Tree) → (least : Option Breach) → Type 0
+TypesTree old new least = FindsKinds (program_seen old) (program_seen new) least
 
 -- a tree whose expressions have their kinds is answered, where there is no breach of them, and else the breach is;
 -- memory may be wanting where there is none
-abbrev pub Settles : Tree → Option Breach → Result Typed PassFault → Type 0
-Settles tree least (Ok t) = t ≡ tree
-Settles tree least (Err (fault.Refused rule place)) = least ≡ Some (breach rule place)
-Settles tree least (Err fault.NoMemory) = least ≡ None
+abbrev pub SettlesKinds : Tree → Option Breach → Result Typed PassFault → Type 0
+SettlesKinds tree least (Ok t) = t ≡ tree
+SettlesKinds tree least (Err (fault.Refused rule place)) = least ≡ Some (breach rule place)
+SettlesKinds tree least (Err fault.NoMemory) = least ≡ None

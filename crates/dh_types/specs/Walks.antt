@@ -29,151 +29,147 @@ use Rattle.dh_types.specs.InTrees.{value_seen}
 use Rattle.dh_types.specs.declared.walks.Walk.{Walk}
 
 -- a point of the text: what is known there, and the least breach so far
-pub record State : Type 0 where
+pub record TypingState : Type 0 where
   pub facts : Facts
   pub least : Option Breach
 
-abbrev pub state_of : Walk → State
-state_of w = record { facts = facts_seen w.facts.items; least = w.least }
+abbrev pub typing_state_of : Walk → TypingState
+typing_state_of w = record { facts = facts_seen w.facts.items; least = w.least }
 
 -- the state before anything is known
-abbrev pub nothing_known : State
+abbrev pub nothing_known : TypingState
 nothing_known = record { facts = []; least = None }
 
 -- the state with these breaches found on the way to a point where this is known
-abbrev pub walked : State → List Breach → Facts → State
-walked s found to = record { facts = to; least = least_of s.least found }
+abbrev pub walked_to_facts : TypingState → List Breach → Facts → TypingState
+walked_to_facts s found to = record { facts = to; least = least_of s.least found }
 
 -- the state at the same point, with these breaches
-abbrev pub noted : State → List Breach → State
-noted s found = walked s found s.facts
+abbrev pub noted : TypingState → List Breach → TypingState
+noted s found = walked_to_facts s found s.facts
 
 -- the state where one more fact is known
-abbrev pub learned : State → Fact → State
+abbrev pub learned : TypingState → Fact → TypingState
 learned s fact = record { facts = s.facts ++ fact ∷ []; least = s.least }
 
 -- the state where further facts are known
-abbrev pub knows : State → List Fact → State
+abbrev pub knows : TypingState → List Fact → TypingState
 knows s facts = record { facts = s.facts ++ facts; least = s.least }
 
 -- the state behind the header of a loop: its breaches are noted, and its iterator is known
-abbrev pub entered_as : State → LoopHeader → Kind → State
+abbrev pub entered_as : TypingState → LoopHeader → Kind → TypingState
 entered_as s h kind = learned (noted s (iterator_breaches h.iterator kind ++ (low_breaches kind (low_seen h) ++ high_breaches kind (low_seen h) (high_seen h)))) (of_iterator kind)
 
-abbrev pub entered : State → LoopHeader → State
+abbrev pub entered : TypingState → LoopHeader → TypingState
 entered s h = entered_as s h (iterator_kind h.declared)
 
 -- the walk notes these breaches at its point
 abbrev pub NotesAll : (old new : Walk) → List Breach → Type 0
-NotesAll old new breaches = state_of new ≡ noted (state_of old) breaches
+NotesAll old new breaches = typing_state_of new ≡ noted (typing_state_of old) breaches
 
 -- the walk notes the breaches that a rule finds here, by what is known at its point
 abbrev pub NotesBy : {A : Type 0} → (rule : Facts → A → List Breach) → (old new : Walk) → A → Type 0
-NotesBy rule old new seen = NotesAll old new (rule (state_of old).facts seen)
+NotesBy rule old new seen = NotesAll old new (rule (typing_state_of old).facts seen)
 
 -- the walk notes the breaches of an assignment
 abbrev pub NotesAssigned : (old new : Walk) → (target : Ref) → (value : Expr) → Type 0
 NotesAssigned old new target value =
-    NotesAll old new (target_breaches (fact_of (state_of old).facts target) target.place
-    ++ right_side_breaches (state_of old).facts (target_kind (fact_of (state_of old).facts target)) (term_seen value))
+    NotesAll old new (target_breaches (fact_of (typing_state_of old).facts target) target.place
+    ++ right_side_breaches (typing_state_of old).facts (target_kind (fact_of (typing_state_of old).facts target)) (term_seen value))
 
 -- the walk notes the breaches of a reducer
 abbrev pub NotesReduced : (old new : Walk) → (target : Ref) → (value : Expr) → Type 0
 NotesReduced old new target value =
-    NotesAll old new (target_breaches (fact_of (state_of old).facts target) target.place
-    ++ (reducer_kind_breaches (target_kind (fact_of (state_of old).facts target)) (rules.found (term_seen value)) target.place
-    ++ right_side_breaches (state_of old).facts (target_kind (fact_of (state_of old).facts target)) (term_seen value)))
+    NotesAll old new (target_breaches (fact_of (typing_state_of old).facts target) target.place
+    ++ (reducer_kind_breaches (target_kind (fact_of (typing_state_of old).facts target)) (rules.found (term_seen value)) target.place
+    ++ right_side_breaches (typing_state_of old).facts (target_kind (fact_of (typing_state_of old).facts target)) (term_seen value)))
 
 -- the walk notes the breach of the name of a view's parent
 abbrev pub NotesParent : (old new : Walk) → (parent : Ref) → Type 0
-NotesParent old new parent = NotesAll old new (parent_breaches (fact_of (state_of old).facts parent) parent.place)
+NotesParent old new parent = NotesAll old new (parent_breaches (fact_of (typing_state_of old).facts parent) parent.place)
 
 -- the walk learns one more fact; for want of memory it stays as it was
 abbrev pub LearnsFact : (old new : Walk) → known.Fact → Result (Unit {0}) NoMemory → Type 0
-LearnsFact old new fact result = state_of new ≡ (if is_ok result then learned (state_of old) (fact_seen fact) else state_of old)
+LearnsFact old new fact result = typing_state_of new ≡ (if is_ok result then learned (typing_state_of old) (fact_seen fact) else typing_state_of old)
 
 -- the walk learns what is known of memories from outside, of functions, and of parameters
 abbrev pub LearnsMemories : (old new : Walk) → List Decl → Type 0
-LearnsMemories old new decls = state_of new ≡ knows (state_of old) (declared_facts (map declared_seen decls))
+LearnsMemories old new decls = typing_state_of new ≡ knows (typing_state_of old) (declared_facts (map declared_seen decls))
 
 abbrev pub LearnsFunctions : (old new : Walk) → List Function → Type 0
-LearnsFunctions old new functions = state_of new ≡ knows (state_of old) (map function_fact (map defined_seen functions))
+LearnsFunctions old new functions = typing_state_of new ≡ knows (typing_state_of old) (map function_fact (map defined_seen functions))
 
 abbrev pub LearnsParameters : (old new : Walk) → List Parameter → Type 0
-LearnsParameters old new parameters = state_of new ≡ knows (state_of old) (formal_facts (map formal_seen parameters))
+LearnsParameters old new parameters = typing_state_of new ≡ knows (typing_state_of old) (formal_facts (map formal_seen parameters))
 
 -- the first of these kinds, and the others
-abbrev pub first_of : List Kind → Option Kind
-first_of [] = None
-first_of (k ∷ ks) = Some k
+abbrev pub first_kind_of : List Kind → Option Kind
+first_kind_of [] = None
+first_kind_of (k ∷ ks) = Some k
 
 abbrev pub others_of : List Kind → List Kind
 others_of [] = []
 others_of (k ∷ ks) = ks
 
 -- a walk over a command, up to its end
-pub record Types (old new : State) (a b : Action) : Type 0 where
+pub record Types (old new : TypingState) (a b : Action) : Type 0 where
   pub tree : b ≡ typed_action old.facts a
-  pub state : new ≡ walked old (action_kind_breaches old.facts b) (facts_after old.facts b)
+  pub state : new ≡ walked_to_facts old (action_kind_breaches old.facts b) (facts_after old.facts b)
 
-pub record TypesForm (old new : State) (a b : ActionForm) : Type 0 where
+pub record TypesForm (old new : TypingState) (a b : ActionForm) : Type 0 where
   pub tree : b ≡ typed_action_form old.facts a
-  pub state : new ≡ walked old (action_form_kind_breaches old.facts b) (facts_after_form old.facts b)
+  pub state : new ≡ walked_to_facts old (action_form_kind_breaches old.facts b) (facts_after_form old.facts b)
 
-pub record TypesOther (old new : State) (a b : MaybeAction) : Type 0 where
+pub record TypesOther (old new : TypingState) (a b : MaybeAction) : Type 0 where
   pub tree : b ≡ typed_other old.facts a
-  pub state : new ≡ walked old (other_kind_breaches old.facts b) (facts_after_other old.facts b)
+  pub state : new ≡ walked_to_facts old (other_kind_breaches old.facts b) (facts_after_other old.facts b)
 
-pub record TypesActions (old new : State) (a b : Actions) : Type 0 where
+pub record TypesActions (old new : TypingState) (a b : Actions) : Type 0 where
   pub tree : b ≡ typed_actions old.facts a
-  pub state : new ≡ walked old (actions_kind_breaches old.facts b) (facts_after_actions old.facts b)
+  pub state : new ≡ walked_to_facts old (actions_kind_breaches old.facts b) (facts_after_actions old.facts b)
 
-pub record TypesGroups (old new : State) (a b : Groups) : Type 0 where
+pub record TypesGroups (old new : TypingState) (a b : Groups) : Type 0 where
   pub tree : b ≡ typed_groups old.facts a
-  pub state : new ≡ walked old (groups_kind_breaches old.facts b) (facts_after_groups old.facts b)
+  pub state : new ≡ walked_to_facts old (groups_kind_breaches old.facts b) (facts_after_groups old.facts b)
 
-pub record TypesFunction (old new : State) (a b : Defined) : Type 0 where
+pub record TypesFunction (old new : TypingState) (a b : Defined) : Type 0 where
   pub tree : b ≡ typed_function old.facts a
-  pub state : new ≡ walked old (function_kind_breaches old.facts b) (facts_after_function old.facts b)
+  pub state : new ≡ walked_to_facts old (function_kind_breaches old.facts b) (facts_after_function old.facts b)
 
-pub record TypesFunctions (old new : State) (a b : List Defined) : Type 0 where
+pub record TypesFunctions (old new : TypingState) (a b : List Defined) : Type 0 where
   pub tree : b ≡ typed_functions old.facts a
-  pub state : new ≡ walked old (functions_kind_breaches old.facts b) (facts_after_functions old.facts b)
+  pub state : new ≡ walked_to_facts old (functions_kind_breaches old.facts b) (facts_after_functions old.facts b)
 
 -- the code's walk over a command, up to its end; over its form, over a block that may lack, and over a part
 abbrev pub TypesCommand : (old new : Walk) → (a b : Command) → Type 0
-TypesCommand old new a b = Types (state_of old) (state_of new) (action_seen a) (action_seen b)
+TypesCommand old new a b = Types (typing_state_of old) (typing_state_of new) (action_seen a) (action_seen b)
 
 abbrev pub TypesCommandForm : (old new : Walk) → (a b : CommandForm) → Type 0
-TypesCommandForm old new a b = TypesForm (state_of old) (state_of new) (action_form_seen a) (action_form_seen b)
+TypesCommandForm old new a b = TypesForm (typing_state_of old) (typing_state_of new) (action_form_seen a) (action_form_seen b)
 
 -- the code's walk over the parts of a variable or a memory, of a view, and of a store, as a form of that name
 abbrev pub TypesVariable : (old new : Walk) → (declared : Option Kind) → (a b : Option Expr) → Type 0
-TypesVariable old new declared a b = (name : Ref) → TypesForm (state_of old) (state_of new) (lets name declared (value_seen a)) (lets name declared (value_seen b))
+TypesVariable old new declared a b = (name : Ref) → TypesForm (typing_state_of old) (typing_state_of new) (lets name declared (value_seen a)) (lets name declared (value_seen b))
 
 abbrev pub TypesMemory : (old new : Walk) → Shape → (a b : Option Expr) → Type 0
 TypesMemory old new shape a b =
-    (name : Ref) (places : ShapePlaces) → TypesForm (state_of old) (state_of new) (lets_memory name shape places (value_seen a)) (lets_memory name shape places (value_seen b))
+    (name : Ref) (places : ShapePlaces) → TypesForm (typing_state_of old) (typing_state_of new) (lets_memory name shape places (value_seen a)) (lets_memory name shape places (value_seen b))
 
 abbrev pub TypesViewed : (old new : Walk) → (parent : Ref) → (a b : ViewForm) → Type 0
-TypesViewed old new parent a b = (name : Ref) → TypesForm (state_of old) (state_of new) (views name parent (view_plan a)) (views name parent (view_plan b))
+TypesViewed old new parent a b = (name : Ref) → TypesForm (typing_state_of old) (typing_state_of new) (views name parent (view_plan a)) (views name parent (view_plan b))
 
 abbrev pub TypesSides : (old new : Walk) → (a b : Sides) → Type 0
-TypesSides old new a b = TypesForm (state_of old) (state_of new) (sides_seen a) (sides_seen b)
+TypesSides old new a b = TypesForm (typing_state_of old) (typing_state_of new) (sides_seen a) (sides_seen b)
 
 abbrev pub TypesOptional : (old new : Walk) → (a b : Option (Box Command Global)) → Type 0
-TypesOptional old new a b = TypesOther (state_of old) (state_of new) (maybe_block_seen a) (maybe_block_seen b)
+TypesOptional old new a b = TypesOther (typing_state_of old) (typing_state_of new) (maybe_block_seen a) (maybe_block_seen b)
 
 abbrev pub TypesPart : (old new : Walk) → (a b : Vec Command Global) → Type 0
-TypesPart old new a b = TypesActions (state_of old) (state_of new) (part_seen a) (part_seen b)
+TypesPart old new a b = TypesActions (typing_state_of old) (typing_state_of new) (part_seen a) (part_seen b)
 
 -- the code's walk over a function, and over functions in order
 abbrev pub TypesDefinition : (old new : Walk) → (a b : Function) → Type 0
-TypesDefinition old new a b = TypesFunction (state_of old) (state_of new) (defined_seen a) (defined_seen b)
+TypesDefinition old new a b = TypesFunction (typing_state_of old) (typing_state_of new) (defined_seen a) (defined_seen b)
 
 abbrev pub TypesDefinitions : (old new : Walk) → (a b : Vec Function Global) → Type 0
-TypesDefinitions old new a b = TypesFunctions (state_of old) (state_of new) (map defined_seen a.items) (map defined_seen b.items)
-
--- how many names a function declares
-abbrev pub names_of_function : Function → ℕ
-names_of_function f = length f.parameters.items + declared_in (action_seen f.body)
+TypesDefinitions old new a b = TypesFunctions (typing_state_of old) (typing_state_of new) (map defined_seen a.items) (map defined_seen b.items)

@@ -5,7 +5,7 @@ ghost use Rattle.dh_tree.specs.Seen.{term_seen, form_seen};
 ghost use Rattle.dh_tree.specs.Kinds as rules;
 ghost use Rattle.dh_types.specs.Facts.{facts_seen};
 ghost use Rattle.dh_types.specs.Bare.{settled, settled_form, filled_in, filled_in_form};
-ghost use Rattle.dh_types.specs.InTrees.{TypesTerm, TypesTerms, Fills, wanted_left, wanted_right};
+ghost use Rattle.dh_types.specs.InTrees.{TypesTerm, TypesTerms, FillsBareOperand, wanted_left, wanted_right};
 
 use crate::facts::Fact;
 use crate::finding::{is_bare_number, is_leaf, kind_found, leaf_kind};
@@ -143,7 +143,7 @@ fn is_bare(op: Op, bare_left: bool, bare_right: bool) -> bool
 
 // Gives a bare operand its kinds, and leaves one that has its kinds.
 fn fill_bare(facts: &[Fact], bare: bool, want: Option<Kind>, operand: &mut Expr)
-    ensures { Fills facts.now bare want operand.old operand.new }
+    ensures { FillsBareOperand facts.now bare want operand.old operand.new }
 {
     if bare {
         if is_leaf(&operand.form) {
@@ -156,8 +156,8 @@ fn fill_bare(facts: &[Fact], bare: bool, want: Option<Kind>, operand: &mut Expr)
 
 // Gives the bare operands of an operation that is not bare their kinds, where the others have theirs.
 fn fill_operands(facts: &[Fact], op: Op, bare: (bool, bool), left: &mut Expr, right: &mut Expr)
-    ensures left { Fills facts.now bare.0 (wanted_left op bare.1 right.old) left.old left.new }
-    ensures right { Fills facts.now bare.1 (wanted_right op bare.0 left.new) right.old right.new }
+    ensures left { FillsBareOperand facts.now bare.0 (wanted_left op bare.1 right.old) left.old left.new }
+    ensures right { FillsBareOperand facts.now bare.1 (wanted_right op bare.0 left.new) right.old right.new }
 {
     fill_bare(facts, bare.0, left_want(op, None, bare.1, right.kind), left);
     fill_bare(

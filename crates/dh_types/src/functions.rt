@@ -1,9 +1,9 @@
 //! The kinds within functions.
 
 ghost use Rattle.std.specs.Prelude.{◌<◌, MatchResult, map, length};
-ghost use Rattle.dh_tree.specs.NameCounts.{declared_in_functions};
+ghost use Rattle.dh_tree.specs.NameCounts.{declared_in_functions, declared_by};
 ghost use Rattle.dh_tree.specs.Seen.{defined_seen};
-ghost use Rattle.dh_types.specs.Walks.{LearnsMemories, LearnsFunctions, LearnsParameters, TypesDefinition, TypesDefinitions, names_of_function};
+ghost use Rattle.dh_types.specs.Walks.{LearnsMemories, LearnsFunctions, LearnsParameters, TypesDefinition, TypesDefinitions};
 
 use crate::facts::{function_fact, memory_fact, parameter_fact};
 use crate::walks::Walk;
@@ -49,7 +49,7 @@ impl Walk {
     fn function(&mut self, alloc: Global, function: &mut Function) -> Result<(), NoMemory>
         ensures { MatchResult result
             (λ _. TypesDefinition self.old self.new function.old function.new)
-            (λ _. 0 < names_of_function function.old) }
+            (λ _. 0 < declared_by function.old) }
     {
         self.learn_parameters(&function.parameters)?;
         self.command(alloc, &mut function.body)?;

@@ -6,7 +6,7 @@ ghost use Rattle.std.specs.Option.{is_some};
 ghost use Rattle.dh_tree.specs.Seen.{term_seen, placed, all_terms_seen};
 ghost use Rattle.dh_tree.specs.Kinds as rules;
 ghost use Rattle.dh_tree.specs.KindBreaches.{term_kind_breaches, indices_kind_breaches, offset_breaches, assigned_breaches, truth_breaches, condition_breaches, argument_breaches, target_breaches, parent_breaches, reducer_kind_breaches, iterator_breaches, low_breaches, high_breaches};
-ghost use Rattle.dh_types.specs.Facts.{facts_seen, known_fact, listed, is_memory as names_it, is_memory_name};
+ghost use Rattle.dh_types.specs.Facts.{facts_seen, known_fact, listed_breach, is_memory as names_it, is_memory_name};
 ghost use Rattle.dh_types.specs.InTrees.{have_wrong_count};
 ghost use Rattle.dh_types.specs.Judging.{JudgesAccess, KeepsBy, breaches_for};
 ghost use Rattle.dh_types.specs.Leaves.{is_sound, names_value};
@@ -20,7 +20,7 @@ use dh_tree::{Breach, Expr, ExprForm, Kind, Ref};
 
 // The breach of a name that is used as a value.
 fn value_breach(fact: Option<&Fact>, place: Place) -> Option<Breach>
-    ensures { listed result ≡ rules.value_breaches (known_fact fact.entry) place }
+    ensures { listed_breach result ≡ rules.value_breaches (known_fact fact.entry) place }
 {
     match fact {
         Some(Fact::Memory { .. } | Fact::Function { .. }) => mismatch_unless(false, place),
@@ -70,7 +70,7 @@ fn access_breach(fact: Option<&Fact>, place: Place, indices: &[Expr]) -> Option<
 
 // The breach of a name at whose place a memory or a view stands.
 fn memory_breach(fact: Option<&Fact>, place: Place) -> Option<Breach>
-    ensures { listed result ≡ rules.bank_breaches (known_fact fact.entry) place }
+    ensures { listed_breach result ≡ rules.bank_breaches (known_fact fact.entry) place }
 {
     match fact {
         Some(Fact::Memory { .. }) | None => None,
@@ -80,7 +80,7 @@ fn memory_breach(fact: Option<&Fact>, place: Place) -> Option<Breach>
 
 // The breach of an index, an offset or a row of this kind.
 fn index_breach(kind: Option<Kind>, place: Place) -> Option<Breach>
-    ensures { listed result ≡ rules.index_breaches kind place }
+    ensures { listed_breach result ≡ rules.index_breaches kind place }
 {
     match kind {
         Some(kind) => mismatch_unless(is_integer(kind), place),
@@ -90,7 +90,7 @@ fn index_breach(kind: Option<Kind>, place: Place) -> Option<Breach>
 
 // The breach of a cast of an expression of this kind.
 fn cast_breach(place: Place, inner: Option<Kind>, to: Kind) -> Option<Breach>
-    ensures { listed result ≡ rules.cast_breaches place inner to }
+    ensures { listed_breach result ≡ rules.cast_breaches place inner to }
 {
     match inner {
         Some(_) => mismatch_unless(!is_truth(to), place),
@@ -191,7 +191,7 @@ pub fn keep_offset(facts: &[Fact], kept: &mut Option<Breach>, offset: &Expr)
 
 // The breach of a right side of a kind for a target of a kind.
 fn assigned_breach(target: Option<Kind>, value: Option<Kind>, place: Place) -> Option<Breach>
-    ensures { listed result ≡ assigned_breaches target value place }
+    ensures { listed_breach result ≡ assigned_breaches target value place }
 {
     match (target, value) {
         (Some(target), Some(value)) => {
@@ -221,7 +221,7 @@ pub fn keep_right_side(
 
 // The breach of a condition of this kind.
 fn truth_breach(kind: Option<Kind>, place: Place) -> Option<Breach>
-    ensures { listed result ≡ truth_breaches kind place }
+    ensures { listed_breach result ≡ truth_breaches kind place }
 {
     match kind {
         Some(kind) => mismatch_unless(is_truth(kind), place),
@@ -276,7 +276,7 @@ pub fn keep_argument(facts: &[Fact], kept: &mut Option<Breach>, argument: &Expr)
 /// The breach of the name of what is assigned to, where it stands for no variable; an iterator is left
 /// to another rule.
 pub fn target_breach(fact: Option<&Fact>, place: Place) -> Option<Breach>
-    ensures { listed result ≡ target_breaches (known_fact fact.entry) place }
+    ensures { listed_breach result ≡ target_breaches (known_fact fact.entry) place }
 {
     match fact {
         Some(Fact::Memory { .. } | Fact::Function { .. }) => mismatch_unless(false, place),
@@ -286,14 +286,14 @@ pub fn target_breach(fact: Option<&Fact>, place: Place) -> Option<Breach>
 
 /// The breach of the name of a view's parent, where it stands for no memory and no view.
 pub fn parent_breach(fact: Option<&Fact>, place: Place) -> Option<Breach>
-    ensures { listed result ≡ parent_breaches (known_fact fact.entry) place }
+    ensures { listed_breach result ≡ parent_breaches (known_fact fact.entry) place }
 {
     memory_breach(fact, place)
 }
 
 /// The breach of a reducer whose target is Bool.
 pub fn reducer_breach(target: Option<Kind>, value: Option<Kind>, place: Place) -> Option<Breach>
-    ensures { listed result ≡ reducer_kind_breaches target value place }
+    ensures { listed_breach result ≡ reducer_kind_breaches target value place }
 {
     match (target, value) {
         (Some(target), Some(_)) => mismatch_unless(!is_truth(target), place),
@@ -303,14 +303,14 @@ pub fn reducer_breach(target: Option<Kind>, value: Option<Kind>, place: Place) -
 
 /// The breach of an iterator that is declared Bool.
 pub fn iterator_breach(iterator: &Ref, kind: Kind) -> Option<Breach>
-    ensures { listed result ≡ iterator_breaches iterator.now kind }
+    ensures { listed_breach result ≡ iterator_breaches iterator.now kind }
 {
     mismatch_unless(!is_truth(kind), iterator.place)
 }
 
 /// The breach of a lower bound that is no value of the iterator's kind.
 pub fn low_breach(kind: Kind, low: (u64, Place)) -> Option<Breach>
-    ensures { listed result ≡ low_breaches kind (placed low.0 low.1) }
+    ensures { listed_breach result ≡ low_breaches kind (placed low.0 low.1) }
 {
     lost_unless(is_value(kind, false, low.0), low.1)
 }
@@ -318,7 +318,7 @@ pub fn low_breach(kind: Kind, low: (u64, Place)) -> Option<Breach>
 /// The breach of an upper bound above the lower one, where the number before it is no value of the
 /// iterator's kind.
 pub fn high_breach(kind: Kind, low: (u64, Place), high: (u64, Place)) -> Option<Breach>
-    ensures { listed result ≡ high_breaches kind (placed low.0 low.1) (placed high.0 high.1) }
+    ensures { listed_breach result ≡ high_breaches kind (placed low.0 low.1) (placed high.0 high.1) }
 {
     if low.0 < high.0 {
         lost_unless(is_value(kind, false, high.0 - 1), high.1)

@@ -2,7 +2,7 @@
 
 ghost use Rattle.std.specs.Prelude.{◌≡◌, true};
 ghost use Rattle.dh_tree.specs.Kinds as rules;
-ghost use Rattle.dh_types.specs.Facts.{listed};
+ghost use Rattle.dh_types.specs.Facts.{listed_breach};
 ghost use Rattle.dh_types.specs.Judging.{JudgesOperands};
 
 use crate::keeping::mismatch_unless;
@@ -115,7 +115,7 @@ pub fn applied_breach(
     left: (Place, Option<Kind>),
     right: (Place, Option<Kind>),
 ) -> Option<Breach>
-    ensures { listed result ≡ rules.applied_breaches op left.0 right.0 left.1 right.1 }
+    ensures { listed_breach result ≡ rules.applied_breaches op left.0 right.0 left.1 right.1 }
 {
     match (left.1, right.1) {
         (Some(a), Some(b)) => operands_breach(op, left.0, right.0, (a, b)),

@@ -2,7 +2,7 @@
 
 ghost use Rattle.std.specs.Prelude.{◌≡◌, OnOk};
 ghost use Rattle.dh_tree.specs.Kinds as rules;
-ghost use Rattle.dh_types.specs.Walks.{state_of, entered, TypesVariable, TypesMemory, TypesViewed, TypesSides};
+ghost use Rattle.dh_types.specs.Walks.{typing_state_of, entered, TypesVariable, TypesMemory, TypesViewed, TypesSides};
 
 use crate::facts::{Fact, memory_fact, variable_fact};
 use crate::walks::Walk;
@@ -59,7 +59,7 @@ impl Walk {
 
     /// Looks at the iterator of a loop and its bounds, and learns what is known of it.
     pub fn header(&mut self, header: &LoopHeader) -> Result<(), NoMemory>
-        ensures { OnOk result (state_of self.new ≡ entered (state_of self.old) header.now) }
+        ensures { OnOk result (typing_state_of self.new ≡ entered (typing_state_of self.old) header.now) }
     {
         let kind = iterator_kind(header.declared);
         self.bounds(

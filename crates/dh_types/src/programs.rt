@@ -7,8 +7,8 @@ ghost use Rattle.dh_tree.specs.Resolved.{HasEntities};
 ghost use Rattle.dh_tree.specs.Kinds.{HasKinds};
 ghost use Rattle.dh_tree.specs.KindBreaches.{KeepsKinds};
 ghost use Rattle.dh_tree.specs.NameCounts.{names_declared};
-ghost use Rattle.dh_types.specs.Walks.{state_of, nothing_known};
-ghost use Rattle.dh_types.specs.Programs.{Answers, IsWalked, Settles};
+ghost use Rattle.dh_types.specs.Walks.{typing_state_of, nothing_known};
+ghost use Rattle.dh_types.specs.Programs.{Answers, TypesTree, SettlesKinds};
 
 use crate::walks::Walk;
 use dh_base::{NoMemory, PassFault};
@@ -18,8 +18,8 @@ use std::alloc::Global;
 // The walk over a program where it stands. What owns it drops it, so that no drop of a tree is
 // written out at each of these calls.
 fn walk_tree(alloc: Global, walk: &mut Walk, tree: &mut Tree) -> Result<(), NoMemory>
-    requires start { state_of walk.old ≡ nothing_known }
-    ensures { MatchResult result (λ _. IsWalked tree.old tree.new walk.new.least)
+    requires start { typing_state_of walk.old ≡ nothing_known }
+    ensures { MatchResult result (λ _. TypesTree tree.old tree.new walk.new.least)
         (λ _. 0 < names_declared (program_seen tree.old)) }
 {
     walk.learn_memories(&tree.decls)?;
@@ -34,7 +34,7 @@ fn settled(alloc: Global, tree: Tree, least: Option<Breach>) -> Result<Typed, Pa
     requires entities { HasEntities (program_seen tree) }
     requires kinds { HasKinds (program_seen tree) }
     requires suits { least ≡ None → KeepsKinds (program_seen tree) }
-    ensures { Settles tree least result }
+    ensures { SettlesKinds tree least result }
 {
     match least {
         Some(breach) => {

@@ -6,7 +6,7 @@ ghost use Rattle.dh_tree.specs.KindBreaches.{term_kind_breaches, condition_breac
 ghost use Rattle.dh_types.specs.Facts.{IsViewFact};
 ghost use Rattle.dh_types.specs.InTrees.{value_seen, TypesTerm, TypesRightSide, TypesValue, TypesAssigned, TypesArguments, TypesCall};
 ghost use Rattle.dh_types.specs.Judging.{KeepsArguments, breaches_for, maybe_breaches_for, bounds_breaches};
-ghost use Rattle.dh_types.specs.Walks.{LearnsFact, NotesAll, NotesBy, NotesAssigned, NotesReduced, NotesParent, first_of, others_of};
+ghost use Rattle.dh_types.specs.Walks.{LearnsFact, NotesAll, NotesBy, NotesAssigned, NotesReduced, NotesParent, first_kind_of, others_of};
 
 use crate::expressions::type_term;
 use crate::facts::{Fact, fact_of, parameters_of, view_fact};
@@ -145,7 +145,7 @@ impl Walk {
 
 // The first of these kinds, if there is one, and the others.
 fn next_kind<'a>(kinds: &'a [Kind]) -> (Option<Kind>, &'a [Kind])
-    ensures first { result.0 ≡ first_of kinds.now }
+    ensures first { result.0 ≡ first_kind_of kinds.now }
     ensures others { result.1.now ≡ others_of kinds.now }
 {
     match kinds.split_first() {

@@ -15,7 +15,7 @@ use Rattle.dh_value.specs.declared.operators.Op.TheVariants.{Both}
 use Rattle.dh_plan.specs.declared.operations.Operation.{Operation}
 use Rattle.dh_plan.specs.declared.operations.OperationForm.{OperationForm}
 use Rattle.dh_plan.specs.declared.operations.OperationForm.TheVariants.{Compute, Set}
-use Rattle.dh_plan.specs.Correspondence.{Round}
+use Rattle.dh_plan.specs.Correspondence.{Round, loops_round}
 use Rattle.dh_plan.specs.DoneProgram.{operations_using, probes_among}
 use Rattle.dh_plan.specs.PlainPlans.{Node, block_node, turns_node, loop_node, choice_node, threads_node, Nodes, no_nodes, node_then, PlainPlan}
 use Rattle.dh_plan.specs.PlanPhases.{AreNodesOf, IsNodeOf, Tie}
@@ -46,7 +46,6 @@ use Rattle.dh_blocks.specs.BlockMade.{IsTop}
 use Rattle.dh_gathering.specs.declared.blocks.Made.{Made}
 use Rattle.dh_gathering.specs.MadeBlocks.{AddsFlag, IsRoundBlock, IsStraightBlock, IsTestBlock, made_tie}
 use Rattle.dh_gathering.specs.PhasesInLoops.{StraightInLoops, StraightOf, StraightsInLoops, TestInLoops, TestOf, TestsInLoops}
-use Rattle.dh_gathering.specs.PlacedPhases.{loops_round}
 use Rattle.dh_gathering.specs.PushedSets.{settings}
 use Rattle.dh_gathering.proofs.BlocksPlanned.{operations_are}
 use Rattle.dh_phased.proofs.RoundsTop.{rounds_are_top}

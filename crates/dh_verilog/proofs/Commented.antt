@@ -14,12 +14,13 @@ use Rattle.dh_value.specs.declared.kinds.Kind.TheVariants as kind
 use Rattle.dh_tree.specs.declared.tables.Dim.{Dim}
 use Rattle.dh_tree.specs.declared.tables.MemEntry.{MemEntry}
 use Rattle.dh_tree.specs.declared.tables.Shape.{Shape}
-use Rattle.dh_verilog.specs.Head.{kind_text, dim_text, dims_text, side_text, memory_line, fault_name, fault_line}
-use Rattle.dh_verilog.specs.Ranges.{IsPlace}
+use Rattle.dh_verilog.specs.Head.{kind_text, dim_text, dims_text, side_text, memory_line, fault_line}
+use Rattle.dh_verilog.specs.Ranges.{IsPlaceInRange}
 use Rattle.dh_verilog.proofs.Reading.{NoDigit, NoSpace, number_then, no_space, unlike}
 use Rattle.dh_verilog.proofs.Shapes.{Piece, fixed, numeral, word, same_line}
 use Rattle.dh_verilog.proofs.Lines.{Begins, Ends, Tells, equal_items, same_each}
 use Rattle.dh_verilog.proofs.Declared.{Anything}
+use Rattle.dh_base.specs.Faults.{fault_name}
 
 -- a name has no space
 letter_no_space : (b : ℕ) → IsLetter b → b ≡ 32 → ⊥
@@ -193,7 +194,7 @@ one_fault f g p q = ap (λ k. at_place k f.1) p ∙ ap (λ l. at_place g.0 l) q
 wide_place : (n : ℕ) → n < 2 ^ 32 → n < 2 ^ 64
 wide_place n h = omega arith
 
-pub fault_tells : Tells fault_line (λ f. IsPlace f.1) (λ f g. f ≡ g) Anything
+pub fault_tells : Tells fault_line (λ f. IsPlaceInRange f.1) (λ f g. f ≡ g) Anything
 fault_tells i f g x y hf hg nx ny e =
     let t = same_line (fault_pieces i f) (fault_pieces i g) [] [] x y
     (refl, (refl, (refl, (fault_no_space f.0, (fault_no_space g.0, (wide_place f.1.line hf.line, (wide_place g.1.line hg.line, (refl, (refl, (refl, (wide_place f.1.column hf.column, (wide_place g.1.column hg.column, (refl, (refl, (refl, tt))))))))))))))) e in

@@ -7,7 +7,7 @@ use Rattle.std.proofs.lemmas.List.{append_cancel_left}
 use Rattle.dh_net.specs.declared.nets.Cell.{Cell}
 use Rattle.dh_net.specs.declared.nets.CellForm.{CellForm}
 use Rattle.dh_net.specs.declared.nets.Register.{Register}
-use Rattle.dh_verilog.specs.Listed.{numbered}
+use Rattle.dh_verilog.specs.Listed.{each_numbered}
 use Rattle.dh_verilog.specs.Text.{register_line, form_text, cell_line, update_line}
 use Rattle.dh_verilog.proofs.Shapes.{Piece, fixed, numeral, same_line}
 use Rattle.dh_verilog.proofs.Lines.{Begins, Tells}
@@ -103,7 +103,7 @@ cell_tells cs ds i c d x y hc hd e =
 
 -- so do the lines of all cells
 abbrev lines : List Cell → ℕ → List Cell → List ℕ
-lines cells i own = numbered (cell_line cells) i own
+lines cells i own = each_numbered (cell_line cells) i own
 
 pub cells_tell : (cs ds : List Cell) (i : ℕ) (own other : List Cell) (x y : List ℕ) → AllByRecursion (IsSmallCell cs) own → AllByRecursion (IsSmallCell ds) other
     → (slice_index x 2 ≡ 119 → ⊥) → (slice_index y 2 ≡ 119 → ⊥) → lines cs i own ++ x ≡ lines ds i other ++ y → (own ≡ other) × (x ≡ y)

@@ -4,7 +4,7 @@
 use Rattle.std.proofs.Common.{◌≡◌, ℕ, ◌+◌, List, [], ◌∷◌, ◌++◌, ◌∙◌, ap, sym, refl, subst, append_assoc}
 use Rattle.std.specs.Prelude.{slice_index}
 use Rattle.std.specs.List.{AllByRecursion}
-use Rattle.dh_verilog.specs.Listed.{each, numbered}
+use Rattle.dh_verilog.specs.Listed.{each, each_numbered}
 
 -- two lists are of one length, and item by item in this relation
 abbrev pub Pointwise : {A : Type 0} → (A → A → Type 0) → List A → List A → Type 0
@@ -36,28 +36,28 @@ abbrev pub Tells : {A : Type 0} → (ℕ → A → List ℕ) → (A → Type 0) 
 Tells {A = A} text Good R Next =
     (i : ℕ) (a b : A) (x y : List ℕ) → Good a → Good b → Next x → Next y → text i a ++ x ≡ text i b ++ y → R a b × (x ≡ y)
 
-next_on : {A : Type 0} (text : ℕ → A → List ℕ) (k v : ℕ) (Next : List ℕ → Type 0) → Begins text k v Next → (i : ℕ) (xs : List A) (x : List ℕ) → Next x → Next (numbered text i xs ++ x)
+next_on : {A : Type 0} (text : ℕ → A → List ℕ) (k v : ℕ) (Next : List ℕ → Type 0) → Begins text k v Next → (i : ℕ) (xs : List A) (x : List ℕ) → Next x → Next (each_numbered text i xs ++ x)
 next_on text k v Next b i [] x h = h
-next_on text k v Next b i (a ∷ xs) x h = subst Next (sym (append_assoc (text i a) (numbered text (i + 1) xs) x)) (b.next i a (numbered text (i + 1) xs ++ x))
+next_on text k v Next b i (a ∷ xs) x h = subst Next (sym (append_assoc (text i a) (each_numbered text (i + 1) xs) x)) (b.next i a (each_numbered text (i + 1) xs ++ x))
 
-begun : {A : Type 0} (text : ℕ → A → List ℕ) (k v : ℕ) (Next : List ℕ → Type 0) → Begins text k v Next → (i : ℕ) (a : A) (xs : List A) (y x : List ℕ) → Ends k v Next x → x ≡ (text i a ++ numbered text (i + 1) xs) ++ y → ⊥
+begun : {A : Type 0} (text : ℕ → A → List ℕ) (k v : ℕ) (Next : List ℕ → Type 0) → Begins text k v Next → (i : ℕ) (a : A) (xs : List A) (y x : List ℕ) → Ends k v Next x → x ≡ (text i a ++ each_numbered text (i + 1) xs) ++ y → ⊥
 begun text k v Next b i a xs y x ends e =
-    ends.other (ap (λ t. slice_index t k) (e ∙ append_assoc (text i a) (numbered text (i + 1) xs) y) ∙ b.byte i a (numbered text (i + 1) xs ++ y))
+    ends.other (ap (λ t. slice_index t k) (e ∙ append_assoc (text i a) (each_numbered text (i + 1) xs) y) ∙ b.byte i a (each_numbered text (i + 1) xs ++ y))
 
 pub same_numbered : {A : Type 0} (text : ℕ → A → List ℕ) (k v : ℕ) (Good : A → Type 0) (R : A → A → Type 0) (Next : List ℕ → Type 0) → Begins text k v Next → Tells text Good R Next
     → (i : ℕ) (xs ys : List A) (x y : List ℕ) → AllByRecursion Good xs → AllByRecursion Good ys → Ends k v Next x → Ends k v Next y
-    → numbered text i xs ++ x ≡ numbered text i ys ++ y → Pointwise R xs ys × (x ≡ y)
+    → each_numbered text i xs ++ x ≡ each_numbered text i ys ++ y → Pointwise R xs ys × (x ≡ y)
 same_numbered text k v Good R Next b tells i [] [] x y gx gy ex ey e = (tt, e)
 same_numbered text k v Good R Next b tells i [] (c ∷ ys) x y gx gy ex ey e = absurd (begun text k v Next b i c ys y x ex e)
 same_numbered text k v Good R Next b tells i (a ∷ xs) [] x y gx gy ex ey e = absurd (begun text k v Next b i a xs x y ey (sym e))
 same_numbered text k v Good R Next b tells i (a ∷ xs) (c ∷ ys) x y gx gy ex ey e =
-    let one = tells i a c (numbered text (i + 1) xs ++ x) (numbered text (i + 1) ys ++ y) gx.0 gy.0 (next_on text k v Next b (i + 1) xs x ex.next) (next_on text k v Next b (i + 1) ys y ey.next)
-    (sym (append_assoc (text i a) (numbered text (i + 1) xs) x) ∙ (e ∙ append_assoc (text i c) (numbered text (i + 1) ys) y)) in
+    let one = tells i a c (each_numbered text (i + 1) xs ++ x) (each_numbered text (i + 1) ys ++ y) gx.0 gy.0 (next_on text k v Next b (i + 1) xs x ex.next) (next_on text k v Next b (i + 1) ys y ey.next)
+    (sym (append_assoc (text i a) (each_numbered text (i + 1) xs) x) ∙ (e ∙ append_assoc (text i c) (each_numbered text (i + 1) ys) y)) in
     let more = same_numbered text k v Good R Next b tells (i + 1) xs ys x y gx.1 gy.1 ex ey one.1 in
     ((one.0, more.0), more.1)
 
 -- a list without numbers is one whose texts do not name them
-pub each_is : {A : Type 0} (text : A → List ℕ) (i : ℕ) (xs : List A) → each text xs ≡ numbered (λ j. text) i xs
+pub each_is : {A : Type 0} (text : A → List ℕ) (i : ℕ) (xs : List A) → each text xs ≡ each_numbered (λ j. text) i xs
 each_is text i [] = refl
 each_is text i (a ∷ xs) = ap (λ t. text a ++ t) (each_is text (i + 1) xs)
 

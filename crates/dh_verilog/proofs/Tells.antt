@@ -13,12 +13,12 @@ use Rattle.dh_net.specs.declared.nets.Register.{Register}
 use Rattle.dh_net.specs.Valid.{IsValid}
 use Rattle.dh_net.specs.BankPorts.{ports_of}
 use Rattle.dh_net.specs.declared.ports.Port.{Port}
-use Rattle.dh_verilog.specs.Listed.{each, numbered}
+use Rattle.dh_verilog.specs.Listed.{each, each_numbered}
 use Rattle.dh_verilog.specs.Head.{memory_line, fault_line, module_text}
 use Rattle.dh_verilog.specs.Locals.{declared_text, served_lines, local_served}
 use Rattle.dh_verilog.specs.Driving.{driving_text}
 use Rattle.dh_net.specs.Valid.{HasReadsZero}
-use Rattle.dh_verilog.specs.Ranges.{IsPlace, InRange}
+use Rattle.dh_verilog.specs.Ranges.{IsPlaceInRange, InRange}
 use Rattle.dh_verilog.specs.Text.{register_line, cell_line, outputs_text, update_line, clock_text, text_of}
 use Rattle.dh_verilog.proofs.Reading.{unlike}
 use Rattle.dh_verilog.proofs.Shapes.{Piece, fixed, numeral, same_line}
@@ -39,10 +39,10 @@ abbrev after_cells : Net → List ℕ
 after_cells net = driving_text (ports_of net.table) net.drivers ++ after_drivers net
 
 abbrev after_registers : Net → List ℕ
-after_registers net = numbered (cell_line net.cells) 0 net.cells ++ after_cells net
+after_registers net = each_numbered (cell_line net.cells) 0 net.cells ++ after_cells net
 
 abbrev after_module : Net → List ℕ
-after_module net = numbered register_line 0 net.registers ++ after_registers net
+after_module net = each_numbered register_line 0 net.registers ++ after_registers net
 
 -- the module's ports and the declarations of the local ones
 abbrev of_ports : List Port → List ℕ
@@ -52,11 +52,11 @@ abbrev after_faults : Net → List ℕ
 after_faults net = of_ports (ports_of net.table) ++ after_module net
 
 abbrev after_memories : Net → List ℕ
-after_memories net = numbered fault_line 1 net.faults ++ after_faults net
+after_memories net = each_numbered fault_line 1 net.faults ++ after_faults net
 
 -- the same text, grouped to the right
-grouped : (net : Net) → text_of net ≡ codes "// dahlia netlist 1\n" ++ (numbered memory_line 0 net.table ++ after_memories net)
-grouped net = four (codes "// dahlia netlist 1\n") (numbered memory_line 0 net.table) (numbered fault_line 1 net.faults) (of_ports (ports_of net.table)) (after_module net)
+grouped : (net : Net) → text_of net ≡ codes "// dahlia netlist 1\n" ++ (each_numbered memory_line 0 net.table ++ after_memories net)
+grouped net = four (codes "// dahlia netlist 1\n") (each_numbered memory_line 0 net.table) (each_numbered fault_line 1 net.faults) (of_ports (ports_of net.table)) (after_module net)
   where
     four : (a b c d x : List ℕ) → (a ++ (b ++ (c ++ d))) ++ x ≡ a ++ (b ++ (c ++ (d ++ x)))
     four a b c d x = simp append_assoc
@@ -64,13 +64,13 @@ grouped net = four (codes "// dahlia netlist 1\n") (numbered memory_line 0 net.t
 ends : (k v u : ℕ) (x : List ℕ) → (slice_index x k ≡ u) → (v ≡ u → ⊥) → Ends k v Anything x
 ends k v u x at other = record { other = λ e. other (sym e ∙ at); next = tt }
 
-faults_end : (fs : List (FaultKind × Place)) (x : List ℕ) → slice_index x 3 ≡ 117 → Ends 3 109 Anything (numbered fault_line 1 fs ++ x)
+faults_end : (fs : List (FaultKind × Place)) (x : List ℕ) → slice_index x 3 ≡ 117 → Ends 3 109 Anything (each_numbered fault_line 1 fs ++ x)
 faults_end [] x at = ends 3 109 117 x at (unlike 109 117 refl)
-faults_end (f ∷ fs) x at = ends 3 109 102 (numbered fault_line 1 (f ∷ fs) ++ x) refl (unlike 109 102 refl)
+faults_end (f ∷ fs) x at = ends 3 109 102 (each_numbered fault_line 1 (f ∷ fs) ++ x) refl (unlike 109 102 refl)
 
-cells_end : (all cs : List Cell) (x : List ℕ) → slice_index x 2 ≡ 97 → Ends 2 114 Anything (numbered (cell_line all) 0 cs ++ x)
+cells_end : (all cs : List Cell) (x : List ℕ) → slice_index x 2 ≡ 97 → Ends 2 114 Anything (each_numbered (cell_line all) 0 cs ++ x)
 cells_end all [] x at = ends 2 114 97 x at (unlike 114 97 refl)
-cells_end all (c ∷ cs) x at = ends 2 114 119 (numbered (cell_line all) 0 (c ∷ cs) ++ x) refl (unlike 114 119 refl)
+cells_end all (c ∷ cs) x at = ends 2 114 119 (each_numbered (cell_line all) 0 (c ∷ cs) ++ x) refl (unlike 114 119 refl)
 
 driving_at : (ps : List Port) (dss : List (List Driver)) (x : List ℕ) → slice_index x 2 ≡ 97 → slice_index (driving_text ps dss ++ x) 2 ≡ 97
 driving_at [] dss x at = at
@@ -84,12 +84,12 @@ outputs_at net = driving_at (ports_of net.table) net.drivers (after_drivers net)
 same_table : (m n : Net) → IsValid m → IsValid n → text_of m ≡ text_of n → (m.table ≡ n.table) × (after_memories m ≡ after_memories n)
 same_table m n vm vn e =
     let t = same_numbered memory_line 3 109 IsSmallEntry (λ a b. a ≡ b) Anything memory_begins memory_tells 0 m.table n.table (after_memories m) (after_memories n) (table_small m.table vm.table) (table_small n.table vn.table) (faults_end m.faults (after_faults m) refl) (faults_end n.faults (after_faults n) refl)
-    (append_cancel_left (codes "// dahlia netlist 1\n") (numbered memory_line 0 m.table ++ after_memories m) (numbered memory_line 0 n.table ++ after_memories n) (sym (grouped m) ∙ (e ∙ grouped n))) in
+    (append_cancel_left (codes "// dahlia netlist 1\n") (each_numbered memory_line 0 m.table ++ after_memories m) (each_numbered memory_line 0 n.table ++ after_memories n) (sym (grouped m) ∙ (e ∙ grouped n))) in
     (equal_items m.table n.table t.0, t.1)
 
 same_faults : (m n : Net) → InRange m → InRange n → after_memories m ≡ after_memories n → (m.faults ≡ n.faults) × (after_faults m ≡ after_faults n)
 same_faults m n rm rn e =
-    let t = same_numbered fault_line 3 102 (λ f. IsPlace f.1) (λ a b. a ≡ b) Anything fault_begins fault_tells 1 m.faults n.faults (after_faults m) (after_faults n) rm.faults rn.faults (ends 3 102 117 (after_faults m) refl (unlike 102 117 refl)) (ends 3 102 117 (after_faults n) refl (unlike 102 117 refl)) e in
+    let t = same_numbered fault_line 3 102 (λ f. IsPlaceInRange f.1) (λ a b. a ≡ b) Anything fault_begins fault_tells 1 m.faults n.faults (after_faults m) (after_faults n) rm.faults rn.faults (ends 3 102 117 (after_faults m) refl (unlike 102 117 refl)) (ends 3 102 117 (after_faults n) refl (unlike 102 117 refl)) e in
     (equal_items m.faults n.faults t.0, t.1)
 
 -- what is said of the ports follows from the table
@@ -136,7 +136,7 @@ same_updates : (m n : Net) → IsValid m → IsValid n → InRange m → InRange
 same_updates m n vm vn rm rn e =
     (same_numbered update_line 4 114 IsSmallRegister StepsAlike Anything update_begins update_tells 0 m.registers n.registers (last (ports_of m.table)) (last (ports_of n.table)) (registers_small m vm rm) (registers_small n vn rn)
     (record { other = served_at (ports_of m.table); next = tt }) (record { other = served_at (ports_of n.table); next = tt })
-    (append_cancel_left (codes "  always @(posedge clk) begin\n") (numbered update_line 0 m.registers ++ last (ports_of m.table)) (numbered update_line 0 n.registers ++ last (ports_of n.table)) e)).0
+    (append_cancel_left (codes "  always @(posedge clk) begin\n") (each_numbered update_line 0 m.registers ++ last (ports_of m.table)) (each_numbered update_line 0 n.registers ++ last (ports_of n.table)) e)).0
 
 one_list : (rs ss : List Register) → Pointwise StartsAlike rs ss → Pointwise StepsAlike rs ss → rs ≡ ss
 one_list [] [] a b = refl

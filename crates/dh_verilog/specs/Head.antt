@@ -2,7 +2,6 @@
 use Rattle.std.specs.Prelude.{ℕ, ◌-◌, Bool, true, false, if◌then◌else◌, List, [], ◌∷◌, ◌++◌, codes}
 use Rattle.std.specs.Fmt.{decimal}
 use Rattle.dh_base.specs.declared.outcomes.FaultKind.{FaultKind}
-use Rattle.dh_base.specs.declared.outcomes.FaultKind.TheVariants as fault
 use Rattle.dh_base.specs.declared.places.Place.{Place}
 use Rattle.dh_value.specs.declared.kinds.Kind.{Kind}
 use Rattle.dh_value.specs.declared.kinds.Kind.TheVariants as kind
@@ -10,6 +9,7 @@ use Rattle.dh_tree.specs.declared.tables.Dim.{Dim}
 use Rattle.dh_tree.specs.declared.tables.MemEntry.{MemEntry}
 use Rattle.dh_verilog.specs.Listed.{each}
 use Rattle.dh_net.specs.declared.ports.Port.{Port}
+use Rattle.dh_base.specs.Faults.{fault_name}
 
 -- `ubit 8`
 abbrev pub kind_text : Kind → List ℕ
@@ -34,9 +34,6 @@ side_text false = codes "local"
 abbrev pub memory_line : ℕ → MemEntry → List ℕ
 memory_line i e =
     codes "// memory " ++ (decimal i ++ (codes " " ++ (e.name ++ (codes " " ++ (kind_text e.shape.kind ++ (codes " ports " ++ (decimal e.shape.ports ++ (codes " dims " ++ (dims_text e.shape.dims ++ (codes " " ++ (side_text e.outside ++ codes "\n")))))))))))
-
-abbrev pub fault_name : FaultKind → List ℕ
-fault_name fault.OutOfRange = codes "OutOfRange"
 
 -- `// fault 1 OutOfRange 5:12`
 abbrev pub fault_line : ℕ → FaultKind × Place → List ℕ

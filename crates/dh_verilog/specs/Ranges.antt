@@ -7,7 +7,7 @@ use Rattle.dh_net.specs.Valid.{IsValid, HasReadsZero}
 use Rattle.dh_verilog.specs.Text.{text_of}
 
 -- the place has a line and a column below 2^32
-pub record IsPlace (p : Place) : Type 0 where
+pub record IsPlaceInRange (p : Place) : Type 0 where
   pub line : p.line < 2 ^ 32
   pub column : p.column < 2 ^ 32
 
@@ -16,7 +16,7 @@ pub record IsPlace (p : Place) : Type 0 where
 pub record InRange (net : Net) : Type 0 where
   pub registers : length net.registers < 2 ^ 64
   pub cells : length net.cells < 2 ^ 64
-  pub faults : AllByRecursion (λ f. IsPlace f.1) net.faults
+  pub faults : AllByRecursion (λ f. IsPlaceInRange f.1) net.faults
 
 -- no other valid net of the program, with reads of data 0, has this text
 abbrev pub IsAlone : List ℕ → Net → Type 0

@@ -9,7 +9,7 @@ use Rattle.dh_net.specs.Clock.{wire_width}
 use Rattle.dh_net.specs.declared.nets.Net.{Net}
 use Rattle.dh_net.specs.declared.nets.Register.{Register}
 use Rattle.dh_net.specs.declared.ports.Port.{Port}
-use Rattle.dh_verilog.specs.Listed.{each, numbered}
+use Rattle.dh_verilog.specs.Listed.{each, each_numbered}
 use Rattle.dh_verilog.specs.Head.{memory_line, fault_line, module_text}
 use Rattle.dh_verilog.specs.Locals.{declared_text, local_served}
 use Rattle.dh_verilog.specs.Driving.{driving_text}
@@ -87,14 +87,14 @@ update_line i r = codes "    r" ++ (decimal i ++ (codes " <= w" ++ (decimal r.ne
 -- what each clock does
 abbrev pub clock_text : List Register → List Port → List ℕ
 clock_text registers ports =
-    codes "  always @(posedge clk) begin\n" ++ (numbered update_line 0 registers ++ (each local_served ports ++ codes "  end\nendmodule\n"))
+    codes "  always @(posedge clk) begin\n" ++ (each_numbered update_line 0 registers ++ (each local_served ports ++ codes "  end\nendmodule\n"))
 
 -- what stands before the registers
-abbrev pub head_text : Net → List Port → List ℕ
-head_text net ports =
-    codes "// dahlia netlist 1\n" ++ (numbered memory_line 0 net.table ++ (numbered fault_line 1 net.faults ++ (module_text ports ++ declared_text ports)))
+abbrev pub netlist_head_text : Net → List Port → List ℕ
+netlist_head_text net ports =
+    codes "// dahlia netlist 1\n" ++ (each_numbered memory_line 0 net.table ++ (each_numbered fault_line 1 net.faults ++ (module_text ports ++ declared_text ports)))
 
 -- the whole text
 abbrev pub text_of : Net → List ℕ
 text_of net =
-    head_text net (ports_of net.table) ++ (numbered register_line 0 net.registers ++ (numbered (cell_line net.cells) 0 net.cells ++ (driving_text (ports_of net.table) net.drivers ++ (outputs_text net.tick net.done net.fault ++ clock_text net.registers (ports_of net.table)))))
+    netlist_head_text net (ports_of net.table) ++ (each_numbered register_line 0 net.registers ++ (each_numbered (cell_line net.cells) 0 net.cells ++ (driving_text (ports_of net.table) net.drivers ++ (outputs_text net.tick net.done net.fault ++ clock_text net.registers (ports_of net.table)))))

@@ -2,7 +2,7 @@
 
 ghost use Rattle.std.specs.Prelude.{◌≡◌};
 ghost use Rattle.dh_net.specs.Clock.{wire_width};
-ghost use Rattle.dh_verilog.specs.Adding.{Adds};
+ghost use Rattle.dh_verilog.specs.Adding.{AddsText};
 ghost use Rattle.dh_verilog.specs.Text.{binary_text, signed_shift_text, signed_less_text, zeros_above_text, sign_above_text, low_text, chosen_text, form_text};
 
 use dh_net::{Cell, CellForm};
@@ -21,7 +21,7 @@ fn width_at(cells: &[Cell], wire: u64) -> u8
 
 // Writes an operation on two wires.
 fn write_binary(out: &mut String, a: u64, sign: &str, b: u64) -> Result<(), AllocError>
-    ensures { Adds result out.old out.new (binary_text a sign.now b) }
+    ensures { AddsText result out.old out.new (binary_text a sign.now b) }
 {
     write!(out, "w{a}")?;
     out.push_str(sign)?;
@@ -30,21 +30,21 @@ fn write_binary(out: &mut String, a: u64, sign: &str, b: u64) -> Result<(), Allo
 
 // Writes a shift of a number in two's complement to the right.
 fn write_signed_shift(out: &mut String, a: u64, b: u64) -> Result<(), AllocError>
-    ensures { Adds result out.old out.new (signed_shift_text a b) }
+    ensures { AddsText result out.old out.new (signed_shift_text a b) }
 {
     write!(out, "$signed(w{a}) >>> w{b}")
 }
 
 // Writes a comparison of numbers in two's complement.
 fn write_signed_less(out: &mut String, a: u64, b: u64) -> Result<(), AllocError>
-    ensures { Adds result out.old out.new (signed_less_text a b) }
+    ensures { AddsText result out.old out.new (signed_less_text a b) }
 {
     write!(out, "$signed(w{a}) < $signed(w{b})")
 }
 
 // Writes a wire with so many zeros above it.
 fn write_zeros_above(out: &mut String, zeros: u8, a: u64) -> Result<(), AllocError>
-    ensures { Adds result out.old out.new (zeros_above_text zeros a) }
+    ensures { AddsText result out.old out.new (zeros_above_text zeros a) }
 {
     out.push_str("{")?;
     write!(out, "{zeros}'d0, w{a}")?;
@@ -53,7 +53,7 @@ fn write_zeros_above(out: &mut String, zeros: u8, a: u64) -> Result<(), AllocErr
 
 // Writes a wire of so many bits with so many copies of its highest one above it.
 fn write_sign_above(out: &mut String, copies: u8, narrow: u8, a: u64) -> Result<(), AllocError>
-    ensures { Adds result out.old out.new (sign_above_text copies narrow a) }
+    ensures { AddsText result out.old out.new (sign_above_text copies narrow a) }
 {
     write!(
         out,
@@ -64,14 +64,14 @@ fn write_sign_above(out: &mut String, copies: u8, narrow: u8, a: u64) -> Result<
 
 // Writes so many low bits of a wire.
 fn write_low(out: &mut String, width: u8, a: u64) -> Result<(), AllocError>
-    ensures { Adds result out.old out.new (low_text width a) }
+    ensures { AddsText result out.old out.new (low_text width a) }
 {
     write!(out, "w{a}[{}:0]", width.saturating_sub(1))
 }
 
 // Writes a choice between two wires.
 fn write_chosen(out: &mut String, c: u64, a: u64, b: u64) -> Result<(), AllocError>
-    ensures { Adds result out.old out.new (chosen_text c a b) }
+    ensures { AddsText result out.old out.new (chosen_text c a b) }
 {
     write!(out, "w{c} ? w{a} : w{b}")
 }
@@ -83,7 +83,7 @@ pub fn write_form(
     width: u8,
     form: CellForm,
 ) -> Result<(), AllocError>
-    ensures { Adds result out.old out.new (form_text cells.now width form) }
+    ensures { AddsText result out.old out.new (form_text cells.now width form) }
 {
     match form {
         CellForm::Const { bits } => write!(out, "{width}'d{bits}"),

@@ -2,10 +2,10 @@
 
 ghost use Rattle.std.specs.Prelude.{◌≡◌, [], IsOk, OnOk};
 ghost use Rattle.std.specs.List.{AllByRecursion};
-ghost use Rattle.dh_verilog.specs.Adding.{Adds};
-ghost use Rattle.dh_verilog.specs.Listed.{each, numbered};
-ghost use Rattle.dh_verilog.specs.Ranges.{IsPlace};
-ghost use Rattle.dh_verilog.specs.Head.{kind_text, dim_text, dims_text, side_text, memory_line, fault_name, fault_line, outer_pins, module_text};
+ghost use Rattle.dh_verilog.specs.Adding.{AddsText};
+ghost use Rattle.dh_verilog.specs.Listed.{each, each_numbered};
+ghost use Rattle.dh_verilog.specs.Ranges.{IsPlaceInRange};
+ghost use Rattle.dh_verilog.specs.Head.{kind_text, dim_text, dims_text, side_text, memory_line, fault_line, outer_pins, module_text};
 
 use crate::ports::write_outer_pins;
 use dh_base::{FaultKind, Place};
@@ -16,7 +16,7 @@ use std::fmt::Write;
 
 // Writes the kind.
 fn write_kind(out: &mut String, kind: Kind) -> Result<(), AllocError>
-    ensures { Adds result out.old out.new (kind_text kind) }
+    ensures { AddsText result out.old out.new (kind_text kind) }
 {
     match kind {
         Kind::Bool => out.push_str("bool"),
@@ -27,14 +27,14 @@ fn write_kind(out: &mut String, kind: Kind) -> Result<(), AllocError>
 
 // Writes the dimension: its size and its banks.
 fn write_dim(out: &mut String, dim: Dim) -> Result<(), AllocError>
-    ensures { Adds result out.old out.new (dim_text dim) }
+    ensures { AddsText result out.old out.new (dim_text dim) }
 {
     write!(out, "{}:{}", dim.size, dim.banks)
 }
 
 // Writes the dimensions, joined.
 fn write_dims(out: &mut String, dims: &[Dim]) -> Result<(), AllocError>
-    ensures text { Adds result out.old out.new (dims_text dims.now) }
+    ensures text { AddsText result out.old out.new (dims_text dims.now) }
     ensures none { dims.now ≡ [] → IsOk result }
 {
     match dims.split_first() {
@@ -59,7 +59,7 @@ fn side(outside: bool) -> &'static str
 
 // Writes the comment on the memory with this number.
 fn write_memory_line(out: &mut String, number: usize, entry: &MemEntry) -> Result<(), AllocError>
-    ensures { Adds result out.old out.new (memory_line number entry.now) }
+    ensures { AddsText result out.old out.new (memory_line number entry.now) }
 {
     write!(out, "// memory {} {} ", number, entry.name.as_str())?;
     write_kind(out, entry.shape.kind)?;
@@ -70,21 +70,12 @@ fn write_memory_line(out: &mut String, number: usize, entry: &MemEntry) -> Resul
 
 /// Writes the comments on all memories.
 pub fn write_memories(out: &mut String, table: &[MemEntry]) -> Result<(), AllocError>
-    ensures { Adds result out.old out.new (numbered memory_line 0 table.now) }
+    ensures { AddsText result out.old out.new (each_numbered memory_line 0 table.now) }
 {
     for (i, entry) in table.iter().enumerate() {
         write_memory_line(out, i, entry)?;
     }
     Ok(())
-}
-
-// The fault's name.
-fn name_of_fault(kind: FaultKind) -> &'static str
-    ensures { result.now ≡ fault_name kind }
-{
-    match kind {
-        FaultKind::OutOfRange => "OutOfRange",
-    }
 }
 
 // Writes the comment on the fault with this number.
@@ -94,10 +85,10 @@ fn write_fault_line(
     kind: FaultKind,
     place: Place,
 ) -> Result<(), AllocError>
-    ensures text { Adds result out.old out.new (fault_line number (kind, place)) }
-    ensures range { IsPlace place }
+    ensures text { AddsText result out.old out.new (fault_line number (kind, place)) }
+    ensures range { IsPlaceInRange place }
 {
-    let name = name_of_fault(kind);
+    let name = kind.name();
     write!(
         out,
         "// fault {} {} {}:{}\n",
@@ -107,8 +98,8 @@ fn write_fault_line(
 
 /// Writes the comments on all faults.
 pub fn write_faults(out: &mut String, faults: &[(FaultKind, Place)]) -> Result<(), AllocError>
-    ensures text { Adds result out.old out.new (numbered fault_line 1 faults.now) }
-    ensures range { OnOk result (AllByRecursion (λ f. IsPlace f.1) faults.now) }
+    ensures text { AddsText result out.old out.new (each_numbered fault_line 1 faults.now) }
+    ensures range { OnOk result (AllByRecursion (λ f. IsPlaceInRange f.1) faults.now) }
 {
     for (i, (kind, place)) in faults.iter().enumerate() {
         write_fault_line(out, i + 1, *kind, *place)?;
@@ -118,7 +109,7 @@ pub fn write_faults(out: &mut String, faults: &[(FaultKind, Place)]) -> Result<(
 
 // Writes the pins of all ports outside the module.
 fn write_all_pins(out: &mut String, ports: &[Port]) -> Result<(), AllocError>
-    ensures { Adds result out.old out.new (each outer_pins ports.now) }
+    ensures { AddsText result out.old out.new (each outer_pins ports.now) }
 {
     for port in ports {
         write_outer_pins(out, *port)?;
@@ -128,7 +119,7 @@ fn write_all_pins(out: &mut String, ports: &[Port]) -> Result<(), AllocError>
 
 /// Writes the list of the module's ports.
 pub fn write_module(out: &mut String, ports: &[Port]) -> Result<(), AllocError>
-    ensures { Adds result out.old out.new (module_text ports.now) }
+    ensures { AddsText result out.old out.new (module_text ports.now) }
 {
     out.push_str("module kernel(\n  input clk,\n  output tick,\n  output done,\n")?;
     out.push_str("  output [31:0] fault")?;

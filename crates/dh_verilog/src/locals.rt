@@ -2,7 +2,7 @@
 //! them.
 
 ghost use Rattle.std.specs.Prelude.{◌≡◌};
-ghost use Rattle.dh_verilog.specs.Adding.{Adds};
+ghost use Rattle.dh_verilog.specs.Adding.{AddsText};
 ghost use Rattle.dh_verilog.specs.Listed.{each};
 ghost use Rattle.dh_verilog.specs.Locals.{bank_name, bit_wire, wide_wire, held_line, bank_line, last_line, declared_lines, local_lines, zeros_line, local_zeros, has_local, zeros_block, zeros_text, when_reading, when_writing, row_text, read_line, write_line, served_lines, local_served, declared_text};
 
@@ -13,14 +13,14 @@ use std::fmt::Write;
 
 // Writes the name of the port's bank.
 fn write_bank(out: &mut String, port: Port) -> Result<(), AllocError>
-    ensures { Adds result out.old out.new (bank_name port) }
+    ensures { AddsText result out.old out.new (bank_name port) }
 {
     write!(out, "m{}_b{}", port.memory, port.bank)
 }
 
 // Writes the declaration of a wire of one bit.
 fn write_bit_wire(out: &mut String, port: Port, ending: &str) -> Result<(), AllocError>
-    ensures { Adds result out.old out.new (bit_wire port ending.now) }
+    ensures { AddsText result out.old out.new (bit_wire port ending.now) }
 {
     out.push_str("  wire ")?;
     write_pin(out, port, ending)?;
@@ -29,7 +29,7 @@ fn write_bit_wire(out: &mut String, port: Port, ending: &str) -> Result<(), Allo
 
 // Writes the declaration of a wire of this width.
 fn write_wide_wire(out: &mut String, width: u8, port: Port, ending: &str) -> Result<(), AllocError>
-    ensures { Adds result out.old out.new (wide_wire width port ending.now) }
+    ensures { AddsText result out.old out.new (wide_wire width port ending.now) }
 {
     write!(out, "  wire [{}:0] ", width.saturating_sub(1))?;
     write_pin(out, port, ending)?;
@@ -38,7 +38,7 @@ fn write_wide_wire(out: &mut String, width: u8, port: Port, ending: &str) -> Res
 
 // Writes the declaration of the port's held data.
 fn write_held(out: &mut String, port: Port) -> Result<(), AllocError>
-    ensures { Adds result out.old out.new (held_line port) }
+    ensures { AddsText result out.old out.new (held_line port) }
 {
     write!(out, "  reg [{}:0] ", port.width.saturating_sub(1))?;
     write_pin(out, port, "_in")?;
@@ -47,7 +47,7 @@ fn write_held(out: &mut String, port: Port) -> Result<(), AllocError>
 
 // Writes the declaration of the port's bank.
 fn write_bank_line(out: &mut String, port: Port) -> Result<(), AllocError>
-    ensures { Adds result out.old out.new (bank_line port) }
+    ensures { AddsText result out.old out.new (bank_line port) }
 {
     write!(out, "  reg [{}:0] ", port.width.saturating_sub(1))?;
     write_bank(out, port)?;
@@ -56,7 +56,7 @@ fn write_bank_line(out: &mut String, port: Port) -> Result<(), AllocError>
 
 // Writes the declaration of the bank behind its last port.
 fn write_last(out: &mut String, port: Port) -> Result<(), AllocError>
-    ensures { Adds result out.old out.new (last_line port) }
+    ensures { AddsText result out.old out.new (last_line port) }
 {
     if port.is_last {
         write_bank_line(out, port)
@@ -67,7 +67,7 @@ fn write_last(out: &mut String, port: Port) -> Result<(), AllocError>
 
 // Writes the declarations of a local port.
 fn write_port(out: &mut String, port: Port) -> Result<(), AllocError>
-    ensures { Adds result out.old out.new (declared_lines port) }
+    ensures { AddsText result out.old out.new (declared_lines port) }
 {
     write_bit_wire(out, port, "_en")?;
     write_bit_wire(out, port, "_we")?;
@@ -79,7 +79,7 @@ fn write_port(out: &mut String, port: Port) -> Result<(), AllocError>
 
 // Writes them where the port is local.
 fn write_local(out: &mut String, port: Port) -> Result<(), AllocError>
-    ensures { Adds result out.old out.new (local_lines port) }
+    ensures { AddsText result out.old out.new (local_lines port) }
 {
     if port.outside {
         Ok(())
@@ -90,7 +90,7 @@ fn write_local(out: &mut String, port: Port) -> Result<(), AllocError>
 
 // Writes the declarations of all local ports.
 fn write_all_local(out: &mut String, ports: &[Port]) -> Result<(), AllocError>
-    ensures { Adds result out.old out.new (each local_lines ports.now) }
+    ensures { AddsText result out.old out.new (each local_lines ports.now) }
 {
     for port in ports {
         write_local(out, *port)?;
@@ -100,7 +100,7 @@ fn write_all_local(out: &mut String, ports: &[Port]) -> Result<(), AllocError>
 
 // Writes the loop that fills the port's bank with zeros.
 fn write_zeros_line(out: &mut String, port: Port) -> Result<(), AllocError>
-    ensures { Adds result out.old out.new (zeros_line port) }
+    ensures { AddsText result out.old out.new (zeros_line port) }
 {
     write!(
         out,
@@ -111,7 +111,7 @@ fn write_zeros_line(out: &mut String, port: Port) -> Result<(), AllocError>
 
 // Writes it where the port is the last of a local bank.
 fn write_zeros(out: &mut String, port: Port) -> Result<(), AllocError>
-    ensures { Adds result out.old out.new (local_zeros port) }
+    ensures { AddsText result out.old out.new (local_zeros port) }
 {
     if !port.outside && port.is_last {
         write_zeros_line(out, port)
@@ -122,7 +122,7 @@ fn write_zeros(out: &mut String, port: Port) -> Result<(), AllocError>
 
 // Writes the loops of all local banks.
 fn write_all_zeros(out: &mut String, ports: &[Port]) -> Result<(), AllocError>
-    ensures { Adds result out.old out.new (each local_zeros ports.now) }
+    ensures { AddsText result out.old out.new (each local_zeros ports.now) }
 {
     for port in ports {
         write_zeros(out, *port)?;
@@ -144,7 +144,7 @@ fn is_any_local(ports: &[Port]) -> bool
 
 // Writes the block that fills the local banks with zeros.
 fn write_zeros_block(out: &mut String, ports: &[Port]) -> Result<(), AllocError>
-    ensures { Adds result out.old out.new (zeros_block ports.now) }
+    ensures { AddsText result out.old out.new (zeros_block ports.now) }
 {
     out.push_str("  integer k;\n  initial begin\n")?;
     write_all_zeros(out, ports)?;
@@ -153,7 +153,7 @@ fn write_zeros_block(out: &mut String, ports: &[Port]) -> Result<(), AllocError>
 
 // Writes it where a port is local.
 fn write_initial(out: &mut String, ports: &[Port]) -> Result<(), AllocError>
-    ensures { Adds result out.old out.new (zeros_text ports.now) }
+    ensures { AddsText result out.old out.new (zeros_text ports.now) }
 {
     if is_any_local(ports) {
         write_zeros_block(out, ports)
@@ -164,7 +164,7 @@ fn write_initial(out: &mut String, ports: &[Port]) -> Result<(), AllocError>
 
 /// Writes the declarations of all local banks and their ports.
 pub fn write_declared(out: &mut String, ports: &[Port]) -> Result<(), AllocError>
-    ensures { Adds result out.old out.new (declared_text ports.now) }
+    ensures { AddsText result out.old out.new (declared_text ports.now) }
 {
     write_all_local(out, ports)?;
     write_initial(out, ports)
@@ -172,7 +172,7 @@ pub fn write_declared(out: &mut String, ports: &[Port]) -> Result<(), AllocError
 
 // Writes the condition of a read.
 fn write_when_reading(out: &mut String, port: Port) -> Result<(), AllocError>
-    ensures { Adds result out.old out.new (when_reading port) }
+    ensures { AddsText result out.old out.new (when_reading port) }
 {
     out.push_str("    if (")?;
     write_pin(out, port, "_en")?;
@@ -183,7 +183,7 @@ fn write_when_reading(out: &mut String, port: Port) -> Result<(), AllocError>
 
 // Writes the condition of a write.
 fn write_when_writing(out: &mut String, port: Port) -> Result<(), AllocError>
-    ensures { Adds result out.old out.new (when_writing port) }
+    ensures { AddsText result out.old out.new (when_writing port) }
 {
     out.push_str("    if (")?;
     write_pin(out, port, "_en")?;
@@ -194,7 +194,7 @@ fn write_when_writing(out: &mut String, port: Port) -> Result<(), AllocError>
 
 // Writes the row of the bank that the port is at.
 fn write_row(out: &mut String, port: Port) -> Result<(), AllocError>
-    ensures { Adds result out.old out.new (row_text port) }
+    ensures { AddsText result out.old out.new (row_text port) }
 {
     write_bank(out, port)?;
     out.push_str("[")?;
@@ -204,7 +204,7 @@ fn write_row(out: &mut String, port: Port) -> Result<(), AllocError>
 
 // Writes what a read does.
 fn write_read_line(out: &mut String, port: Port) -> Result<(), AllocError>
-    ensures { Adds result out.old out.new (read_line port) }
+    ensures { AddsText result out.old out.new (read_line port) }
 {
     write_when_reading(out, port)?;
     write_pin(out, port, "_in")?;
@@ -215,7 +215,7 @@ fn write_read_line(out: &mut String, port: Port) -> Result<(), AllocError>
 
 // Writes what a write does.
 fn write_write_line(out: &mut String, port: Port) -> Result<(), AllocError>
-    ensures { Adds result out.old out.new (write_line port) }
+    ensures { AddsText result out.old out.new (write_line port) }
 {
     write_when_writing(out, port)?;
     write_row(out, port)?;
@@ -226,7 +226,7 @@ fn write_write_line(out: &mut String, port: Port) -> Result<(), AllocError>
 
 // Writes what a clock does to a local port and its bank.
 fn write_served_lines(out: &mut String, port: Port) -> Result<(), AllocError>
-    ensures { Adds result out.old out.new (served_lines port) }
+    ensures { AddsText result out.old out.new (served_lines port) }
 {
     write_read_line(out, port)?;
     write_write_line(out, port)
@@ -234,7 +234,7 @@ fn write_served_lines(out: &mut String, port: Port) -> Result<(), AllocError>
 
 // Writes it where the port is local.
 fn write_local_served(out: &mut String, port: Port) -> Result<(), AllocError>
-    ensures { Adds result out.old out.new (local_served port) }
+    ensures { AddsText result out.old out.new (local_served port) }
 {
     if port.outside {
         Ok(())
@@ -245,7 +245,7 @@ fn write_local_served(out: &mut String, port: Port) -> Result<(), AllocError>
 
 /// Writes what a clock does to all local banks and their ports.
 pub fn write_served(out: &mut String, ports: &[Port]) -> Result<(), AllocError>
-    ensures { Adds result out.old out.new (each local_served ports.now) }
+    ensures { AddsText result out.old out.new (each local_served ports.now) }
 {
     for port in ports {
         write_local_served(out, *port)?;

@@ -1,7 +1,7 @@
 //! The ports of memories, their pins, and the lines that say what drives them.
 
 ghost use Rattle.std.specs.Prelude.{◌≡◌};
-ghost use Rattle.dh_verilog.specs.Adding.{Adds};
+ghost use Rattle.dh_verilog.specs.Adding.{AddsText};
 ghost use Rattle.dh_verilog.specs.Listed.{each};
 ghost use Rattle.dh_verilog.specs.Head.{pin, bit_pin, wide_pin, pin_lines, outer_pins};
 ghost use Rattle.dh_verilog.specs.Driving.{enables_text, enable_line, ending_of, signal_width, zero_text, value_text, choice_text, choice_line, port_lines};
@@ -23,7 +23,7 @@ pub enum Signal {
 
 /// Writes the name of a pin.
 pub fn write_pin(out: &mut String, port: Port, ending: &str) -> Result<(), AllocError>
-    ensures { Adds result out.old out.new (pin port ending.now) }
+    ensures { AddsText result out.old out.new (pin port ending.now) }
 {
     write!(out, "m{}_b{}_p{}", port.memory, port.bank, port.port)?;
     out.push_str(ending)
@@ -31,7 +31,7 @@ pub fn write_pin(out: &mut String, port: Port, ending: &str) -> Result<(), Alloc
 
 // Writes the line of an output of one bit, after the comma of the line before.
 fn write_bit_pin(out: &mut String, port: Port, ending: &str) -> Result<(), AllocError>
-    ensures { Adds result out.old out.new (bit_pin port ending.now) }
+    ensures { AddsText result out.old out.new (bit_pin port ending.now) }
 {
     out.push_str(",\n  output ")?;
     write_pin(out, port, ending)
@@ -45,7 +45,7 @@ fn write_wide_pin(
     port: Port,
     ending: &str,
 ) -> Result<(), AllocError>
-    ensures { Adds result out.old out.new (wide_pin direction.now width port ending.now) }
+    ensures { AddsText result out.old out.new (wide_pin direction.now width port ending.now) }
 {
     write!(out, ",\n  {} [{}:0] ", direction, width.saturating_sub(1))?;
     write_pin(out, port, ending)
@@ -53,7 +53,7 @@ fn write_wide_pin(
 
 // Writes the lines of the five pins.
 fn write_pins(out: &mut String, port: Port) -> Result<(), AllocError>
-    ensures { Adds result out.old out.new (pin_lines port) }
+    ensures { AddsText result out.old out.new (pin_lines port) }
 {
     write_bit_pin(out, port, "_en")?;
     write_bit_pin(out, port, "_we")?;
@@ -64,7 +64,7 @@ fn write_pins(out: &mut String, port: Port) -> Result<(), AllocError>
 
 /// Writes the pins of a port outside the module.
 pub fn write_outer_pins(out: &mut String, port: Port) -> Result<(), AllocError>
-    ensures { Adds result out.old out.new (outer_pins port) }
+    ensures { AddsText result out.old out.new (outer_pins port) }
 {
     if port.outside {
         write_pins(out, port)
@@ -75,7 +75,7 @@ pub fn write_outer_pins(out: &mut String, port: Port) -> Result<(), AllocError>
 
 // Writes the enable wires, joined.
 fn write_enables(out: &mut String, drivers: &[Driver]) -> Result<(), AllocError>
-    ensures { Adds result out.old out.new (enables_text drivers.now) }
+    ensures { AddsText result out.old out.new (enables_text drivers.now) }
 {
     match drivers.split_first() {
         Some((first, others)) => {
@@ -91,7 +91,7 @@ fn write_enables(out: &mut String, drivers: &[Driver]) -> Result<(), AllocError>
 
 // Writes the line of the enable pin.
 fn write_enable_line(out: &mut String, port: Port, drivers: &[Driver]) -> Result<(), AllocError>
-    ensures { Adds result out.old out.new (enable_line port drivers.now) }
+    ensures { AddsText result out.old out.new (enable_line port drivers.now) }
 {
     out.push_str("  assign ")?;
     write_pin(out, port, "_en")?;
@@ -124,7 +124,7 @@ fn width_at(signal: Signal, port: Port) -> u8
 
 // Writes a zero of the width.
 fn write_zero(out: &mut String, width: u8) -> Result<(), AllocError>
-    ensures { Adds result out.old out.new (zero_text width) }
+    ensures { AddsText result out.old out.new (zero_text width) }
 {
     write!(out, "{width}'d0")
 }
@@ -136,7 +136,7 @@ fn write_value(
     port: Port,
     driver: Driver,
 ) -> Result<(), AllocError>
-    ensures { Adds result out.old out.new (value_text signal port driver) }
+    ensures { AddsText result out.old out.new (value_text signal port driver) }
 {
     match signal {
         Signal::Write if driver.write => out.push_str("1'd1"),
@@ -154,7 +154,7 @@ fn write_choice(
     port: Port,
     driver: Driver,
 ) -> Result<(), AllocError>
-    ensures { Adds result out.old out.new (choice_text signal port driver) }
+    ensures { AddsText result out.old out.new (choice_text signal port driver) }
 {
     write!(out, "w{} ? ", driver.enable)?;
     write_value(out, signal, port, driver)?;
@@ -168,7 +168,7 @@ fn write_choices(
     port: Port,
     drivers: &[Driver],
 ) -> Result<(), AllocError>
-    ensures { Adds result out.old out.new (each (choice_text signal port) drivers.now) }
+    ensures { AddsText result out.old out.new (each (choice_text signal port) drivers.now) }
 {
     for driver in drivers {
         write_choice(out, signal, port, *driver)?;
@@ -183,7 +183,7 @@ fn write_choice_line(
     port: Port,
     drivers: &[Driver],
 ) -> Result<(), AllocError>
-    ensures { Adds result out.old out.new (choice_line signal port drivers.now) }
+    ensures { AddsText result out.old out.new (choice_line signal port drivers.now) }
 {
     out.push_str("  assign ")?;
     write_pin(out, port, ending(signal))?;
@@ -195,7 +195,7 @@ fn write_choice_line(
 
 /// Writes the four lines that say what drives the port.
 pub fn write_port_lines(out: &mut String, port: Port, drivers: &[Driver]) -> Result<(), AllocError>
-    ensures { Adds result out.old out.new (port_lines port drivers.now) }
+    ensures { AddsText result out.old out.new (port_lines port drivers.now) }
 {
     write_enable_line(out, port, drivers)?;
     write_choice_line(out, Signal::Write, port, drivers)?;

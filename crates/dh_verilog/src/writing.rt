@@ -3,14 +3,14 @@
 ghost use Rattle.std.specs.Prelude.{◌≡◌, ◌<◌, ◌≤◌, ◌^◌, IfOk, OnOk, length};
 ghost use Rattle.std.specs.List.{AllByRecursion};
 ghost use Rattle.dh_net.specs.Valid.{IsValid, HasReadsZero};
-ghost use Rattle.dh_verilog.specs.Adding.{Adds};
+ghost use Rattle.dh_verilog.specs.Adding.{AddsText};
 ghost use Rattle.dh_net.specs.BankPorts.{ports_of};
 ghost use Rattle.dh_extents.specs.Extents.{IsSmallMemory};
-ghost use Rattle.dh_verilog.specs.Listed.{each, numbered};
+ghost use Rattle.dh_verilog.specs.Listed.{each, each_numbered};
 ghost use Rattle.dh_verilog.specs.Locals.{local_served};
 ghost use Rattle.dh_verilog.specs.Driving.{driving_text};
-ghost use Rattle.dh_verilog.specs.Ranges.{InRange, IsAlone, IsPlace};
-ghost use Rattle.dh_verilog.specs.Text.{register_line, cell_line, outputs_text, update_line, clock_text, head_text, text_of};
+ghost use Rattle.dh_verilog.specs.Ranges.{InRange, IsAlone, IsPlaceInRange};
+ghost use Rattle.dh_verilog.specs.Text.{register_line, cell_line, outputs_text, update_line, clock_text, netlist_head_text, text_of};
 
 use crate::expressions::write_form;
 use crate::heads::{write_faults, write_memories, write_module};
@@ -24,7 +24,7 @@ use std::fmt::Write;
 // Writes the declaration of the register with this number.
 fn write_register(out: &mut String, number: usize, register: Register) -> Result<(), AllocError>
     requires { 1 ≤ register.width }
-    ensures { Adds result out.old out.new (register_line number register) }
+    ensures { AddsText result out.old out.new (register_line number register) }
 {
     let Register { width, initial, .. } = register;
     write!(
@@ -40,7 +40,7 @@ fn write_register(out: &mut String, number: usize, register: Register) -> Result
 // Writes the declarations of all registers.
 fn write_registers(out: &mut String, registers: &[Register]) -> Result<(), AllocError>
     requires { AllByRecursion (λ r. 1 ≤ r.width) registers.now }
-    ensures text { Adds result out.old out.new (numbered register_line 0 registers.now) }
+    ensures text { AddsText result out.old out.new (each_numbered register_line 0 registers.now) }
     ensures count { length registers.now < 2 ^ 64 }
 {
     for (i, register) in registers.iter().enumerate() {
@@ -52,7 +52,7 @@ fn write_registers(out: &mut String, registers: &[Register]) -> Result<(), Alloc
 // Writes the declaration of the wire with this number, in a net of these cells.
 fn write_cell(out: &mut String, cells: &[Cell], number: usize, cell: Cell) -> Result<(), AllocError>
     requires { 1 ≤ cell.width }
-    ensures { Adds result out.old out.new (cell_line cells.now number cell) }
+    ensures { AddsText result out.old out.new (cell_line cells.now number cell) }
 {
     write!(out, "  wire [{}:0] w{} = ", cell.width - 1, number)?;
     write_form(out, cells, cell.width, cell.form)?;
@@ -62,7 +62,7 @@ fn write_cell(out: &mut String, cells: &[Cell], number: usize, cell: Cell) -> Re
 // Writes the declarations of all wires.
 fn write_cells(out: &mut String, cells: &[Cell]) -> Result<(), AllocError>
     requires { AllByRecursion (λ c. 1 ≤ c.width) cells.now }
-    ensures text { Adds result out.old out.new (numbered (cell_line cells.now) 0 cells.now) }
+    ensures text { AddsText result out.old out.new (each_numbered (cell_line cells.now) 0 cells.now) }
     ensures count { length cells.now < 2 ^ 64 }
 {
     for (i, cell) in cells.iter().enumerate() {
@@ -78,7 +78,7 @@ fn write_drivers(
     drivers: &[Items<Driver>],
 ) -> Result<(), AllocError>
     requires { length drivers.now ≡ length ports.now }
-    ensures { Adds result out.old out.new (driving_text ports.now drivers.now) }
+    ensures { AddsText result out.old out.new (driving_text ports.now drivers.now) }
 {
     for (i, port) in ports.iter().enumerate() {
         write_port_lines(out, *port, drivers[i].as_slice())?;
@@ -88,7 +88,7 @@ fn write_drivers(
 
 // Writes the outputs.
 fn write_outputs(out: &mut String, tick: u64, done: u64, fault: u64) -> Result<(), AllocError>
-    ensures { Adds result out.old out.new (outputs_text tick done fault) }
+    ensures { AddsText result out.old out.new (outputs_text tick done fault) }
 {
     write!(
         out,
@@ -98,14 +98,14 @@ fn write_outputs(out: &mut String, tick: u64, done: u64, fault: u64) -> Result<(
 
 // Writes what the register with this number takes.
 fn write_update(out: &mut String, number: usize, register: Register) -> Result<(), AllocError>
-    ensures { Adds result out.old out.new (update_line number register) }
+    ensures { AddsText result out.old out.new (update_line number register) }
 {
     write!(out, "    r{} <= w{};\n", number, register.next)
 }
 
 // Writes what all registers take.
 fn write_updates(out: &mut String, registers: &[Register]) -> Result<(), AllocError>
-    ensures { Adds result out.old out.new (numbered update_line 0 registers.now) }
+    ensures { AddsText result out.old out.new (each_numbered update_line 0 registers.now) }
 {
     for (i, register) in registers.iter().enumerate() {
         write_update(out, i, *register)?;
@@ -115,7 +115,7 @@ fn write_updates(out: &mut String, registers: &[Register]) -> Result<(), AllocEr
 
 // Writes what each clock does, and the end.
 fn write_clock(out: &mut String, registers: &[Register], ports: &[Port]) -> Result<(), AllocError>
-    ensures { Adds result out.old out.new (clock_text registers.now ports.now) }
+    ensures { AddsText result out.old out.new (clock_text registers.now ports.now) }
 {
     out.push_str("  always @(posedge clk) begin\n")?;
     write_updates(out, registers)?;
@@ -125,8 +125,8 @@ fn write_clock(out: &mut String, registers: &[Register], ports: &[Port]) -> Resu
 
 // Writes what stands before the registers.
 fn write_head(out: &mut String, net: &Net, ports: &[Port]) -> Result<(), AllocError>
-    ensures text { Adds result out.old out.new (head_text net.now ports.now) }
-    ensures range { OnOk result (AllByRecursion (λ f. IsPlace f.1) net.now.faults) }
+    ensures text { AddsText result out.old out.new (netlist_head_text net.now ports.now) }
+    ensures range { OnOk result (AllByRecursion (λ f. IsPlaceInRange f.1) net.now.faults) }
 {
     out.push_str("// dahlia netlist 1\n")?;
     write_memories(out, net.table.as_slice())?;
@@ -139,7 +139,7 @@ fn write_head(out: &mut String, net: &Net, ports: &[Port]) -> Result<(), AllocEr
 fn write_net(out: &mut String, net: &Net, ports: &[Port]) -> Result<(), AllocError>
     requires valid { IsValid net.now }
     requires ports { ports.now ≡ ports_of net.now.table }
-    ensures text { Adds result out.old out.new (text_of net.now) }
+    ensures text { AddsText result out.old out.new (text_of net.now) }
     ensures range { OnOk result (InRange net.now) }
 {
     let registers = net.registers.as_slice();

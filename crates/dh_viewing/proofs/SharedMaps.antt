@@ -10,7 +10,7 @@ use Rattle.dh_tree.specs.declared.tables.Shape.{Shape}
 use Rattle.dh_tree.specs.declared.viewing.ViewMap.{ViewMap}
 use Rattle.dh_tree.specs.PlainTrees.{ViewPlan, shrinks, splits, suffixes, shifts}
 use Rattle.dh_tree.specs.Views.{factors_of, map_of, sort_of}
-use Rattle.dh_viewing.specs.Shared.{IsAlike, IsMade, map_by}
+use Rattle.dh_viewing.specs.Shared.{IsAlike, IsMadeFromParent, map_by}
 
 -- Numbers.
 
@@ -62,10 +62,10 @@ made_by (suffixes by by_place) parent = refl
 made_by (shifts by) parent = refl
 
 -- each is told so
-pub is_made : (m : ViewMap) (form : ViewPlan) (parent : Shape) → m ≡ map_of form parent → IsMade m
+pub is_made : (m : ViewMap) (form : ViewPlan) (parent : Shape) → m ≡ map_of form parent → IsMadeFromParent m
 is_made m form parent e = e ∙ (made_by form parent ∙ ap (λ (x : ViewMap). map_by x.sort x.by x.parent) (sym e))
 
-pub alike_same : (m : ViewMap) (form : ViewPlan) (parent : Shape) → IsMade m → IsAlike m form parent → m ≡ map_of form parent
+pub alike_same : (m : ViewMap) (form : ViewPlan) (parent : Shape) → IsMadeFromParent m → IsAlike m form parent → m ≡ map_of form parent
 alike_same m form parent made alike =
     made
     ∙ (ap (λ s. map_by s m.by m.parent) alike.sort

@@ -19,7 +19,7 @@ use Rattle.dh_tree.specs.ViewBreaches.{breaks_none, kept_behind, kept_of, kept_s
 use Rattle.dh_tree.specs.ViewFactors.{factors_breaches, viewing_breaches, viewings_breaches}
 use Rattle.dh_tree.specs.Views.{Viewing, form_viewings, map_of, shape_in, shrunk_dims, view_in, viewed_behind, viewed_of}
 use Rattle.dh_viewing.specs.declared.collecting.Found.{Found}
-use Rattle.dh_viewing.specs.Finding.{all_found, entry_shape, factor_broken_at, kept_through, map_through, memory_shape, place_or, shape_kept, shrunk_by, viewed_as, viewing_found}
+use Rattle.dh_viewing.specs.Finding.{viewings_found, entry_shape, factor_broken_at, kept_through, map_through, memory_shape, place_or, shape_kept, shrunk_by, viewed_as, viewing_found}
 
 -- Memories.
 
@@ -99,9 +99,9 @@ shrunk_next ks ds all next i d one below is more h =
         ∙ ap (λ l. shrunk_by (slice_get ks i) (get_or ds i d) ∷ shrunk_dims l (drop (suc i) ds)) (tail_left ks i)))
 
 -- A view is found.
-pub view_more : (found new : List Found) (f : Found) (seen form : ActionForm) → new ≡ found ++ f ∷ [] → seen ≡ form → form_viewings form ≡ viewing_found f ∷ [] → all_found new ≡ all_found found ++ form_viewings seen
+pub view_more : (found new : List Found) (f : Found) (seen form : ActionForm) → new ≡ found ++ f ∷ [] → seen ≡ form → form_viewings form ≡ viewing_found f ∷ [] → viewings_found new ≡ viewings_found found ++ form_viewings seen
 view_more found new f seen form e s l =
-    ap all_found e ∙ (map-append viewing_found found (f ∷ []) ∙ ap (λ ms. all_found found ++ ms) (sym (ap form_viewings s ∙ l)))
+    ap viewings_found e ∙ (map-append viewing_found found (f ∷ []) ∙ ap (λ ms. viewings_found found ++ ms) (sym (ap form_viewings s ∙ l)))
 
 pub shrunk_end : (ks : List ℕ) (ds all : List Dim) (i : ℕ) → i ≡ length ds → all ++ shrunk_dims (drop i ks) (drop i ds) ≡ shrunk_dims ks ds → all ≡ shrunk_dims ks ds
 shrunk_end ks ds all i e h =
@@ -165,20 +165,20 @@ module _ (m : Bool) (at : Place) where
 
 -- Views, one behind the other.
 
-found_from : (found : List Found) (i : ℕ) (x : Found) → i < length found → x ≡ get_or found i x → all_found (drop i found) ≡ viewing_found x ∷ all_found (drop (suc i) found)
-found_from found i x below is = ap all_found (drop-cons found i x below) ∙ ap (λ (f : Found). viewing_found f ∷ all_found (drop (suc i) found)) (sym is)
+found_from : (found : List Found) (i : ℕ) (x : Found) → i < length found → x ≡ get_or found i x → viewings_found (drop i found) ≡ viewing_found x ∷ viewings_found (drop (suc i) found)
+found_from found i x below is = ap viewings_found (drop-cons found i x below) ∙ ap (λ (f : Found). viewing_found f ∷ viewings_found (drop (suc i) found)) (sym is)
 
 module _ (ms : List Memory) (found : List Found) (i : ℕ) (x : Found) (below : i < length found) (is : x ≡ get_or found i x) where
   pub breaches_next : (first vs more : List Viewed) (before kept next : Option Breach)
       → next ≡ least_of kept (viewing_breaches (viewing_found x) (shape_in ms vs (viewing_found x).parent.entity))
       → more ≡ vs ++ viewed_of (viewing_found x) (shape_in ms vs (viewing_found x).parent.entity)
-      → least_of kept (viewings_breaches ms vs (all_found (drop i found))) ≡ least_of before (viewings_breaches ms first (all_found found))
-      → least_of next (viewings_breaches ms more (all_found (drop (i + 1) found))) ≡ least_of before (viewings_breaches ms first (all_found found))
+      → least_of kept (viewings_breaches ms vs (viewings_found (drop i found))) ≡ least_of before (viewings_breaches ms first (viewings_found found))
+      → least_of next (viewings_breaches ms more (viewings_found (drop (i + 1) found))) ≡ least_of before (viewings_breaches ms first (viewings_found found))
   breaches_next first vs more before kept next n m h =
-      subst (λ (k : ℕ). least_of next (viewings_breaches ms more (all_found (drop k found))) ≡ least_of before (viewings_breaches ms first (all_found found))) (sym (add-one i))
-      (ap (λ o. least_of o (viewings_breaches ms more (all_found (drop (suc i) found)))) n
-      ∙ (ap (λ l. least_of (least_of kept own) (viewings_breaches ms l (all_found (drop (suc i) found)))) m
-      ∙ (sym (least_append kept own (viewings_breaches ms (vs ++ viewed_of (viewing_found x) (shape_in ms vs (viewing_found x).parent.entity)) (all_found (drop (suc i) found))))
+      subst (λ (k : ℕ). least_of next (viewings_breaches ms more (viewings_found (drop k found))) ≡ least_of before (viewings_breaches ms first (viewings_found found))) (sym (add-one i))
+      (ap (λ o. least_of o (viewings_breaches ms more (viewings_found (drop (suc i) found)))) n
+      ∙ (ap (λ l. least_of (least_of kept own) (viewings_breaches ms l (viewings_found (drop (suc i) found)))) m
+      ∙ (sym (least_append kept own (viewings_breaches ms (vs ++ viewed_of (viewing_found x) (shape_in ms vs (viewing_found x).parent.entity)) (viewings_found (drop (suc i) found))))
       ∙ (ap (λ l. least_of kept (viewings_breaches ms vs l)) (sym (found_from found i x below is)) ∙ h))))
     where
       own : List Breach
@@ -186,19 +186,19 @@ module _ (ms : List Memory) (found : List Found) (i : ℕ) (x : Found) (below : 
 
   pub viewed_next : (first vs more : List Viewed)
       → more ≡ vs ++ viewed_of (viewing_found x) (shape_in ms vs (viewing_found x).parent.entity)
-      → viewed_behind ms vs (all_found (drop i found)) ≡ viewed_behind ms first (all_found found)
-      → viewed_behind ms more (all_found (drop (i + 1) found)) ≡ viewed_behind ms first (all_found found)
+      → viewed_behind ms vs (viewings_found (drop i found)) ≡ viewed_behind ms first (viewings_found found)
+      → viewed_behind ms more (viewings_found (drop (i + 1) found)) ≡ viewed_behind ms first (viewings_found found)
   viewed_next first vs more m h =
-      subst (λ (k : ℕ). viewed_behind ms more (all_found (drop k found)) ≡ viewed_behind ms first (all_found found)) (sym (add-one i))
-      (ap (λ l. viewed_behind ms l (all_found (drop (suc i) found))) m ∙ (ap (λ l. viewed_behind ms vs l) (sym (found_from found i x below is)) ∙ h))
+      subst (λ (k : ℕ). viewed_behind ms more (viewings_found (drop k found)) ≡ viewed_behind ms first (viewings_found found)) (sym (add-one i))
+      (ap (λ l. viewed_behind ms l (viewings_found (drop (suc i) found))) m ∙ (ap (λ l. viewed_behind ms vs l) (sym (found_from found i x below is)) ∙ h))
 
   pub kept_next : (first ks more : List Viewed)
       → more ≡ ks ++ kept_of (viewing_found x) (kept_shape_in ms ks (viewing_found x).parent.entity)
-      → kept_behind ms ks (all_found (drop i found)) ≡ kept_behind ms first (all_found found)
-      → kept_behind ms more (all_found (drop (i + 1) found)) ≡ kept_behind ms first (all_found found)
+      → kept_behind ms ks (viewings_found (drop i found)) ≡ kept_behind ms first (viewings_found found)
+      → kept_behind ms more (viewings_found (drop (i + 1) found)) ≡ kept_behind ms first (viewings_found found)
   kept_next first ks more m h =
-      subst (λ (k : ℕ). kept_behind ms more (all_found (drop k found)) ≡ kept_behind ms first (all_found found)) (sym (add-one i))
-      (ap (λ l. kept_behind ms l (all_found (drop (suc i) found))) m ∙ (ap (λ l. kept_behind ms ks l) (sym (found_from found i x below is)) ∙ h))
+      subst (λ (k : ℕ). kept_behind ms more (viewings_found (drop k found)) ≡ kept_behind ms first (viewings_found found)) (sym (add-one i))
+      (ap (λ l. kept_behind ms l (viewings_found (drop (suc i) found))) m ∙ (ap (λ l. kept_behind ms ks l) (sym (found_from found i x below is)) ∙ h))
 
 -- What a view is, and what is added of it.
 

@@ -17,20 +17,20 @@ kept_number size z = if is_index size z then Some z else None
 abbrev pub moved_number : (size factor : ℕ) → (offset index : ℤ) → Option ℤ
 moved_number size factor offset index = if is_index size index then kept_number size ((pos factor *ℤ offset) +ℤ index) else None
 
-abbrev pub with_first : Option ℤ → Option (List ℤ) → Option (List ℤ)
-with_first None rest = None
-with_first (Some z) None = None
-with_first (Some z) (Some zs) = Some (z ∷ zs)
+abbrev pub with_first_number : Option ℤ → Option (List ℤ) → Option (List ℤ)
+with_first_number None rest = None
+with_first_number (Some z) None = None
+with_first_number (Some z) (Some zs) = Some (z ∷ zs)
 
 -- all of them, where all are
 abbrev pub moved_numbers : List Dim → List ℕ → (offsets indices : List ℤ) → Option (List ℤ)
-moved_numbers (d ∷ ds) (k ∷ ks) (e ∷ es) (i ∷ is) = with_first (moved_number d.size k e i) (moved_numbers ds ks es is)
+moved_numbers (d ∷ ds) (k ∷ ks) (e ∷ es) (i ∷ is) = with_first_number (moved_number d.size k e i) (moved_numbers ds ks es is)
 moved_numbers _ _ _ _ = Some []
 
 -- these numbers with those behind them, if there are any
-abbrev pub behind : List ℤ → Option (List ℤ) → Option (List ℤ)
-behind front None = None
-behind front (Some zs) = Some (front ++ zs)
+abbrev pub with_front_numbers : List ℤ → Option (List ℤ) → Option (List ℤ)
+with_front_numbers front None = None
+with_front_numbers front (Some zs) = Some (front ++ zs)
 
 -- so many factors of a view that moves: its own, or 1 where it has none
 abbrev pub Moves : ViewSort → (by factors : List ℕ) → (count : ℕ) → Type 0

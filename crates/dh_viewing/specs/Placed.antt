@@ -5,13 +5,13 @@ use Rattle.dh_tree.specs.declared.viewing.ViewMap.{ViewMap}
 use Rattle.dh_tree.specs.Memories.{same_entity}
 
 -- the place among views of the first one that is this entity, if one is
-abbrev pub place_in : List Viewed → Option ℕ → Option ℕ
-place_in [] entity = None
-place_in (v ∷ vs) entity = if same_entity v.entity entity then Some 0 else option_map suc (place_in vs entity)
+abbrev pub view_place_in : List Viewed → Option ℕ → Option ℕ
+view_place_in [] entity = None
+view_place_in (v ∷ vs) entity = if same_entity v.entity entity then Some 0 else option_map suc (view_place_in vs entity)
 
 -- of each entity the place of its view, if it is one
-abbrev pub ArePlaced : List Viewed → (places : List (Option ℕ)) → Type 0
-ArePlaced vs places = (entity : ℕ) → get_or places entity None ≡ place_in vs (Some entity)
+abbrev pub AreViewPlaces : List Viewed → (places : List (Option ℕ)) → Type 0
+AreViewPlaces vs places = (entity : ℕ) → get_or places entity None ≡ view_place_in vs (Some entity)
 
 -- the same is told of each entity
 abbrev pub TellTheSame : (old new : List (Option ℕ)) → Type 0
@@ -20,7 +20,7 @@ TellTheSame old new = (entity : ℕ) → get_or new entity None ≡ get_or old e
 -- where an entity is the next view behind those that are placed, and this is its place, it is placed too
 abbrev pub PlacesNext : (entity place : ℕ) → (old new : List (Option ℕ)) → Type 0
 PlacesNext entity place old new =
-    (vs : List Viewed) (v : Viewed) → ArePlaced vs old → place ≡ length vs → v.entity ≡ Some entity → ArePlaced (vs ++ v ∷ []) new
+    (vs : List Viewed) (v : Viewed) → AreViewPlaces vs old → place ≡ length vs → v.entity ≡ Some entity → AreViewPlaces (vs ++ v ∷ []) new
 
 -- the place that is told of an entity
 abbrev pub placed_at : (places : List (Option ℕ)) → Option ℕ → Option ℕ

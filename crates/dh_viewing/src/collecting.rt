@@ -5,7 +5,7 @@ ghost use Rattle.std.specs.Option.{is_some};
 ghost use Rattle.dh_tree.specs.Memories.{memories_of};
 ghost use Rattle.dh_tree.specs.Seen.{action_seen, all_parts_seen, maybe_block_seen, factor_seen, view_plan, program_seen};
 ghost use Rattle.dh_tree.specs.Views.{dims_of, factors_of, groups_viewings, map_of, other_viewings, shape_in, shrunk_dims, sort_of, split_dims, view_of, viewed_in, viewings, views_of};
-ghost use Rattle.dh_viewing.specs.Finding.{FindsViews, all_found, entry_shape, map_behind, memory_shape_in, shrunk_by, viewed_as, with_all_found, with_found};
+ghost use Rattle.dh_viewing.specs.Finding.{FindsViews, viewings_found, entry_shape, map_behind, memory_shape_in, shrunk_by, viewed_as, with_all_found, with_found_view};
 
 use crate::placing::ViewTable;
 use dh_base::{Items, NoMemory};
@@ -272,7 +272,7 @@ fn push_view(
     views: &mut ViewTable,
     found: &Found<'_>,
 ) -> Result<(), NoMemory>
-    ensures { OnOk result (views.new ≡ with_found typed.now views.old found.now) }
+    ensures { OnOk result (views.new ≡ with_found_view typed.now views.old found.now) }
 {
     let is = map_behind(alloc, typed, views, found)?;
     push_map(views, found.name.entity, is)
@@ -295,7 +295,7 @@ fn push_views(
 
 /// The views that a program declares, in text order.
 pub(crate) fn found_in<'a>(alloc: Global, typed: &'a Typed) -> Result<Vec<Found<'a>>, NoMemory>
-    ensures { IfOk result (λ found. all_found found.items ≡ views_of (program_seen typed.now)) }
+    ensures { IfOk result (λ found. viewings_found found.items ≡ views_of (program_seen typed.now)) }
 {
     let mut found = Vec::new(alloc);
     find_views(&mut found, &typed.tree().body)?;

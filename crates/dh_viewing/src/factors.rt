@@ -9,7 +9,7 @@ ghost use Rattle.dh_tree.specs.Seen.{view_plan, program_seen};
 ghost use Rattle.dh_tree.specs.ViewFactors as definitions;
 ghost use Rattle.dh_tree.specs.ViewFactors.{factors_breaches, plan_breaches, viewing_breaches};
 ghost use Rattle.dh_tree.specs.Views.{shape_in};
-ghost use Rattle.dh_viewing.specs.Finding.{all_found_breaches, factor_broken_at, factors_paired, found_breaches, map_behind, multiples_breaches, place_or, viewed_as, viewing_found, with_all_found, with_found};
+ghost use Rattle.dh_viewing.specs.Finding.{all_found_breaches, factor_broken_at, factors_paired, found_breaches, map_behind, multiples_breaches, place_or, viewed_as, viewing_found, with_all_found, with_found_view};
 
 use crate::collecting::{Found, shape_of_memory};
 use crate::sharing::{LastMaps, SharedMap};
@@ -236,7 +236,7 @@ fn keep_behind(
 ) -> Result<(), NoMemory>
     ensures breaches { OnOk result
         (kept.new ≡ least_of kept.old (found_breaches typed.now views.old found.now)) }
-    ensures views { OnOk result (views.new ≡ with_found typed.now views.old found.now) }
+    ensures views { OnOk result (views.new ≡ with_found_view typed.now views.old found.now) }
 {
     let is = keep_map(alloc, typed, maps, kept, views, found)?;
     push_map(views, found.name.entity, is)

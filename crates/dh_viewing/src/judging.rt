@@ -6,7 +6,7 @@ ghost use Rattle.dh_tree.specs.Memories.{table_of};
 ghost use Rattle.dh_tree.specs.Seen.{program_seen};
 ghost use Rattle.dh_tree.specs.ViewBreaches.{dims_through};
 ghost use Rattle.dh_tree.specs.Views.{view_in};
-ghost use Rattle.dh_viewing.specs.Finding.{kept_shape_at, kept_through, shape_lent, viewing_found, with_all_kept, with_kept};
+ghost use Rattle.dh_viewing.specs.Finding.{kept_shape_at, kept_through, shape_lent, viewing_found, with_all_kept, with_kept_view};
 ghost use Rattle.dh_viewing.specs.Judged as definitions;
 ghost use Rattle.dh_viewing.specs.Judged.{AreJudged, AreKeptApart, JudgesViews};
 
@@ -144,7 +144,7 @@ fn push_kept(
     kept: &mut ViewTable,
     found: &Found<'_>,
 ) -> Result<(), NoMemory>
-    ensures { OnOk result (kept.new ≡ with_kept typed.now kept.old found.now) }
+    ensures { OnOk result (kept.new ≡ with_kept_view typed.now kept.old found.now) }
 {
     let is = kept_map(
         alloc,

@@ -2,7 +2,7 @@
 
 ghost use Rattle.std.specs.Prelude.{◌≡◌, ◌<◌, [], ◌∷◌, ◌++◌, length, option_map, IfOk, OnOk};
 ghost use Rattle.dh_tree.specs.Views.{view_in};
-ghost use Rattle.dh_viewing.specs.Placed.{ArePlaced, PlacesNext, TellTheSame, map_at, placed_at};
+ghost use Rattle.dh_viewing.specs.Placed.{AreViewPlaces, PlacesNext, TellTheSame, map_at, placed_at};
 
 use dh_base::{Items, NoMemory};
 use dh_tree::{ViewMap, Viewed};
@@ -45,9 +45,9 @@ fn add_entity(
     view: Viewed,
 ) -> Result<(), NoMemory>
     requires small { entity < 4294967296 }
-    requires placed { ArePlaced views.now places.now.items }
+    requires placed { AreViewPlaces views.now places.now.items }
     requires entity { view.entity ≡ Some entity }
-    ensures placed { ArePlaced views.new places.new.items }
+    ensures placed { AreViewPlaces views.new places.new.items }
     ensures added { OnOk result (views.new ≡ views.old ++ view ∷ []) }
 {
     let place = views.len();
@@ -63,8 +63,8 @@ fn add(
     places: &mut Vec<Option<usize>>,
     view: Viewed,
 ) -> Result<(), NoMemory>
-    requires { ArePlaced views.now places.now.items }
-    ensures placed { ArePlaced views.new places.new.items }
+    requires { AreViewPlaces views.now places.now.items }
+    ensures placed { AreViewPlaces views.new places.new.items }
     ensures added { OnOk result (views.new ≡ views.old ++ view ∷ []) }
 {
     let entity = view.entity;
@@ -108,7 +108,7 @@ fn view_of<'a>(
     places: &[Option<usize>],
     entity: Option<u32>,
 ) -> Option<&'a ViewMap>
-    requires { ArePlaced views.now places.now }
+    requires { AreViewPlaces views.now places.now }
     ensures { option_map (λ v. v.now) result ≡ view_in views.now entity }
 {
     view_at(views, place_at(places, entity))
@@ -125,13 +125,13 @@ pub(crate) struct ViewTable {
 impl Model for ViewTable {
     ghost use Rattle.std.specs.Prelude.{List};
     ghost use Rattle.dh_tree.specs.declared.viewing.Viewed.{Viewed};
-    ghost use Rattle.dh_viewing.specs.Placed.{ArePlaced};
+    ghost use Rattle.dh_viewing.specs.Placed.{AreViewPlaces};
 
     ghost Value = { List Viewed };
 
     ghost view = { λ t. t.views };
 
-    ghost invariant = { λ t. ArePlaced t.views t.places.items };
+    ghost invariant = { λ t. AreViewPlaces t.views t.places.items };
 }
 
 impl ViewTable {

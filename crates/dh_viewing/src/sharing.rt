@@ -106,13 +106,13 @@ pub struct SharedMap {
 
 impl Model for SharedMap {
     ghost use Rattle.dh_tree.specs.declared.viewing.ViewMap.{ViewMap};
-    ghost use Rattle.dh_viewing.specs.Shared.{IsMade};
+    ghost use Rattle.dh_viewing.specs.Shared.{IsMadeFromParent};
 
     ghost Value = { ViewMap };
 
     ghost view = { λ s. s.map.value };
 
-    ghost invariant = { λ s. IsMade s.map.value };
+    ghost invariant = { λ s. IsMadeFromParent s.map.value };
 }
 
 impl SharedMap {

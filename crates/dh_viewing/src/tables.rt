@@ -3,7 +3,7 @@
 
 ghost use Rattle.std.specs.Prelude.{◌≡◌, ◌<◌, [], ◌∷◌, ◌++◌, if◌then◌else◌, is_ok, option_map, Some, IfOk, OnOk};
 ghost use Rattle.dh_tree.specs.Views.{view_in};
-ghost use Rattle.dh_viewing.specs.Placed.{ArePlaced, map_at};
+ghost use Rattle.dh_viewing.specs.Placed.{AreViewPlaces, map_at};
 ghost use Rattle.dh_viewing.specs.Tables.{all_shared, shared_placed, shared_seen};
 
 use crate::placing::{make_room, note, place_at};
@@ -28,9 +28,9 @@ fn add_entity(
     view: SharedView,
 ) -> Result<(), NoMemory>
     requires small { entity < 4294967296 }
-    requires placed { ArePlaced (all_shared views.now) places.now.items }
+    requires placed { AreViewPlaces (all_shared views.now) places.now.items }
     requires entity { view.entity ≡ Some entity }
-    ensures placed { ArePlaced (all_shared views.new) places.new.items }
+    ensures placed { AreViewPlaces (all_shared views.new) places.new.items }
     ensures added { views.new ≡ (if is_ok result then views.old ++ view ∷ [] else views.old) }
 {
     let place = views.len();
@@ -46,8 +46,8 @@ fn add(
     places: &mut Vec<Option<usize>>,
     view: SharedView,
 ) -> Result<(), NoMemory>
-    requires { ArePlaced (all_shared views.now) places.now.items }
-    ensures placed { ArePlaced (all_shared views.new) places.new.items }
+    requires { AreViewPlaces (all_shared views.now) places.now.items }
+    ensures placed { AreViewPlaces (all_shared views.new) places.new.items }
     ensures added { views.new ≡ (if is_ok result then views.old ++ view ∷ [] else views.old) }
 {
     let entity = view.entity;
@@ -86,7 +86,7 @@ fn view_of<'a>(
     places: &[Option<usize>],
     entity: Option<u32>,
 ) -> Option<&'a ViewMap>
-    requires { ArePlaced (all_shared views.now) places.now }
+    requires { AreViewPlaces (all_shared views.now) places.now }
     ensures { option_map (λ v. v.now) result ≡ view_in (all_shared views.now) entity }
 {
     view_at(views, place_at(places, entity))
@@ -103,14 +103,14 @@ pub(crate) struct SharedViews {
 impl Model for SharedViews {
     ghost use Rattle.std.specs.Prelude.{List};
     ghost use Rattle.dh_tree.specs.declared.viewing.Viewed.{Viewed};
-    ghost use Rattle.dh_viewing.specs.Placed.{ArePlaced};
+    ghost use Rattle.dh_viewing.specs.Placed.{AreViewPlaces};
     ghost use Rattle.dh_viewing.specs.Tables.{all_shared};
 
     ghost Value = { List Viewed };
 
     ghost view = { λ t. all_shared t.views };
 
-    ghost invariant = { λ t. ArePlaced (all_shared t.views) t.places.items };
+    ghost invariant = { λ t. AreViewPlaces (all_shared t.views) t.places.items };
 }
 
 impl SharedViews {

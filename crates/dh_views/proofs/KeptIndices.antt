@@ -16,7 +16,7 @@ use Rattle.std.proofs.Math.Seq.{drop-cons}
 use Rattle.dh_tree.proofs.Leasts.{least_append}
 use Rattle.dh_shape.specs.Classified.{Classifies}
 use Rattle.dh_shape.specs.declared.indices.IndexKind.TheVariants as kinds
-use Rattle.dh_views.specs.Kept.{copies_of, placed_breaches}
+use Rattle.dh_views.specs.Kept.{body_copies_of, placed_breaches}
 
 -- what an index is, as it was told
 pub constant_kept : (cs : List Counter) (d : Dim) (place : Place) (k : IndexKind) (z : ℤ) → Classifies cs k (kinds.Constant z)
@@ -26,9 +26,9 @@ constant_kept cs d place (iterator c offset) z h = absurd h
 constant_kept cs d place dynamic z h = absurd h
 
 pub iterator_kept : (cs : List Counter) (d : Dim) (place : Place) (k : IndexKind) (entity : ℕ) (offset : ℤ) → Classifies cs k (kinds.Iterator entity offset)
-    → one_index_breaches d place k ≡ when (nat_lt 1 d.banks && not (copies_of (counter_in cs (Some entity)) % d.banks == 0)) (breach BankUnroll place ∷ [])
+    → one_index_breaches d place k ≡ when (nat_lt 1 d.banks && not (body_copies_of (counter_in cs (Some entity)) % d.banks == 0)) (breach BankUnroll place ∷ [])
 iterator_kept cs d place (constant v) entity offset h = absurd h
-iterator_kept cs d place (iterator c o) entity offset h = ap (λ x. when (nat_lt 1 d.banks && not (copies_of x % d.banks == 0)) (breach BankUnroll place ∷ [])) (sym h.0)
+iterator_kept cs d place (iterator c o) entity offset h = ap (λ x. when (nat_lt 1 d.banks && not (body_copies_of x % d.banks == 0)) (breach BankUnroll place ∷ [])) (sym h.0)
 iterator_kept cs d place dynamic entity offset h = absurd h
 
 pub dynamic_kept : (cs : List Counter) (d : Dim) (place : Place) (k : IndexKind) → Classifies cs k kinds.Dynamic

@@ -9,18 +9,18 @@ use Rattle.dh_tree.specs.declared.tables.MemEntry.{MemEntry}
 use Rattle.dh_tree.specs.Indices.{kept_dims, is_beyond}
 use Rattle.dh_tree.specs.Kinds.{signed_number}
 use Rattle.dh_tree.specs.Memories.{Memory, same_entity, number_in, memory_in, entry_of}
-use Rattle.dh_views.specs.Kept.{dims_at, entry_dims, number_bound}
+use Rattle.dh_views.specs.Kept.{entry_dimensions_at, entry_dimensions, number_bound}
 
-further : (x : MemEntry) (es : List MemEntry) (o : Option ℕ) → dims_at es o ≡ dims_at (x ∷ es) (option_map suc o)
+further : (x : MemEntry) (es : List MemEntry) (o : Option ℕ) → entry_dimensions_at es o ≡ entry_dimensions_at (x ∷ es) (option_map suc o)
 further x es None = refl
 further x es (Some n) = refl
 
-one_more : (m : Memory) (ms : List Memory) (e : Option ℕ) → kept_dims (memory_in ms e) ≡ dims_at (map entry_of ms) (number_in ms e)
-    → (b : Bool) → kept_dims (if b then Some m else memory_in ms e) ≡ dims_at (map entry_of (m ∷ ms)) (if b then Some 0 else option_map suc (number_in ms e))
+one_more : (m : Memory) (ms : List Memory) (e : Option ℕ) → kept_dims (memory_in ms e) ≡ entry_dimensions_at (map entry_of ms) (number_in ms e)
+    → (b : Bool) → kept_dims (if b then Some m else memory_in ms e) ≡ entry_dimensions_at (map entry_of (m ∷ ms)) (if b then Some 0 else option_map suc (number_in ms e))
 one_more m ms e rest true = refl
 one_more m ms e rest false = rest ∙ further (entry_of m) (map entry_of ms) (number_in ms e)
 
-pub looked_up : (ms : List Memory) (e : Option ℕ) → kept_dims (memory_in ms e) ≡ dims_at (map entry_of ms) (number_in ms e)
+pub looked_up : (ms : List Memory) (e : Option ℕ) → kept_dims (memory_in ms e) ≡ entry_dimensions_at (map entry_of ms) (number_in ms e)
 looked_up [] e = refl
 looked_up (m ∷ ms) e = one_more m ms e (looked_up ms e) (same_entity m.name.entity e)
 
@@ -33,22 +33,22 @@ none_numbered [] = refl
 none_numbered (m ∷ ms) = ap (λ b. if b then Some 0 else option_map suc (number_in ms None)) (same_none m.name.entity) ∙ ap (λ o. option_map suc o) (none_numbered ms)
 
 pub no_memory : (ms : List Memory) (e : Option ℕ) → e ≡ None → None ≡ kept_dims (memory_in ms e)
-no_memory ms e is = sym (looked_up ms e ∙ (ap (λ x. dims_at (map entry_of ms) (number_in ms x)) is ∙ ap (λ o. dims_at (map entry_of ms) o) (none_numbered ms)))
+no_memory ms e is = sym (looked_up ms e ∙ (ap (λ x. entry_dimensions_at (map entry_of ms) (number_in ms x)) is ∙ ap (λ o. entry_dimensions_at (map entry_of ms) o) (none_numbered ms)))
 
 -- the answer from the table is the answer
 pub told_without_number : (ms : List Memory) (e : Option ℕ) (entity : ℕ) (n : Option ℕ) → e ≡ Some entity → n ≡ number_in ms (Some entity) → n ≡ None → None ≡ kept_dims (memory_in ms e)
 told_without_number ms e entity n named is none =
-    sym (looked_up ms e ∙ (ap (λ x. dims_at (map entry_of ms) (number_in ms x)) named ∙ (ap (λ o. dims_at (map entry_of ms) o) (sym is) ∙ ap (λ o. dims_at (map entry_of ms) o) none)))
+    sym (looked_up ms e ∙ (ap (λ x. entry_dimensions_at (map entry_of ms) (number_in ms x)) named ∙ (ap (λ o. entry_dimensions_at (map entry_of ms) o) (sym is) ∙ ap (λ o. entry_dimensions_at (map entry_of ms) o) none)))
 
 pub told_by_entry : (ms : List Memory) (e : Option ℕ) (entity : ℕ) (n : Option ℕ) (number : ℕ) (es : List MemEntry) (x : Option MemEntry) (answer : Option (List Dim))
-    → e ≡ Some entity → n ≡ number_in ms (Some entity) → n ≡ Some number → es ≡ map entry_of ms → slice_get es number ≡ x → answer ≡ entry_dims x → answer ≡ kept_dims (memory_in ms e)
+    → e ≡ Some entity → n ≡ number_in ms (Some entity) → n ≡ Some number → es ≡ map entry_of ms → slice_get es number ≡ x → answer ≡ entry_dimensions x → answer ≡ kept_dims (memory_in ms e)
 told_by_entry ms e entity n number es x answer named is some same found told =
     told
-    ∙ (ap entry_dims (sym found)
-    ∙ (ap (λ l. entry_dims (slice_get l number)) same
-    ∙ (ap (λ o. dims_at (map entry_of ms) o) (sym some)
-    ∙ (ap (λ o. dims_at (map entry_of ms) o) is
-    ∙ (ap (λ y. dims_at (map entry_of ms) (number_in ms y)) (sym named) ∙ sym (looked_up ms e))))))
+    ∙ (ap entry_dimensions (sym found)
+    ∙ (ap (λ l. entry_dimensions (slice_get l number)) same
+    ∙ (ap (λ o. entry_dimensions_at (map entry_of ms) o) (sym some)
+    ∙ (ap (λ o. entry_dimensions_at (map entry_of ms) o) is
+    ∙ (ap (λ y. entry_dimensions_at (map entry_of ms) (number_in ms y)) (sym named) ∙ sym (looked_up ms e))))))
 
 -- a row that is cut off above all numbers of texts
 nat_cut : (rows value cap : ℕ) → value < cap → nat_le (min rows cap) value ≡ nat_le rows value

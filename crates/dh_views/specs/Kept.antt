@@ -15,19 +15,19 @@ abbrev pub number_bound : ℕ
 number_bound = 2 ^ 64
 
 -- the dimensions of an entry whose shape breaks no rule
-abbrev pub entry_dims : Option MemEntry → Option (List Dim)
-entry_dims None = None
-entry_dims (Some e) = if shape_keeps e.shape then Some e.shape.dims else None
+abbrev pub entry_dimensions : Option MemEntry → Option (List Dim)
+entry_dimensions None = None
+entry_dimensions (Some e) = if shape_keeps e.shape then Some e.shape.dims else None
 
 -- those of the entry of this number
-abbrev pub dims_at : List MemEntry → Option ℕ → Option (List Dim)
-dims_at table None = None
-dims_at table (Some number) = entry_dims (slice_get table number)
+abbrev pub entry_dimensions_at : List MemEntry → Option ℕ → Option (List Dim)
+entry_dimensions_at table None = None
+entry_dimensions_at table (Some number) = entry_dimensions (slice_get table number)
 
 -- the copies of the body of a loop; 1 for what is no loop
-abbrev pub copies_of : Option Counter → ℕ
-copies_of None = 1
-copies_of (Some c) = c.factor
+abbrev pub body_copies_of : Option Counter → ℕ
+body_copies_of None = 1
+body_copies_of (Some c) = c.factor
 
 -- what the bounds and the copies of a loop break
 abbrev pub header_breaches : LoopHeader → List Breach

@@ -12,11 +12,11 @@ use Rattle.dh_tree.specs.Seen.{term_seen, all_terms_seen, factor_seen, action_se
 use Rattle.dh_tree.specs.ViewBreaches.{KnownViews, dims_through, term_view_breaches, terms_view_breaches, maybe_view_breaches, offsets_view_breaches, action_view_breaches, other_view_breaches, groups_view_breaches}
 use Rattle.dh_tree.specs.Views.{view_in}
 use Rattle.dh_viewing.specs.Judged.{ViewsJudged as JudgedViews}
-use Rattle.dh_views.specs.Walked.{known_in, term_broken}
+use Rattle.dh_views.specs.Walked.{index_context_in, term_broken}
 
 -- the names of a program, with its views
 abbrev pub known_through : Tree → JudgedViews → KnownViews
-known_through tree v = record { names = known_in tree; views = v.all; kept = v.kept }
+known_through tree v = record { names = index_context_in tree; views = v.all; kept = v.kept }
 
 -- the breaches of the indices of an access through a view that keeps the rules, by the entity of its name
 abbrev pub through_broken : Tree → JudgedViews → (entity : Option ℕ) → List Expr → List Breach

@@ -19,8 +19,8 @@ use Rattle.dh_tree.specs.PlainTrees.{ActionForm, lets, lets_memory, views, assig
 use Rattle.dh_tree.specs.Seen.{form_seen, term_seen, all_terms_seen, action_form_seen, action_seen, all_parts_seen, maybe_block_seen, program_seen}
 
 -- the memories and loops of a program
-abbrev pub known_in : Tree → IndexContext
-known_in tree = index_context_of (program_seen tree)
+abbrev pub index_context_in : Tree → IndexContext
+index_context_in tree = index_context_of (program_seen tree)
 
 -- the dimensions of what a name stands for, where its shape breaks no rule
 abbrev pub dims_in : Tree → (entity : Option ℕ) → Option (List Dim)
@@ -52,13 +52,13 @@ bank_broken ds bank place row = physical_breaches ds bank place (term_seen row)
 
 -- the breaches in an expression, in expressions, and in one that may lack
 abbrev pub term_broken : Tree → Expr → List Breach
-term_broken tree e = term_index_breaches (known_in tree) (term_seen e)
+term_broken tree e = term_index_breaches (index_context_in tree) (term_seen e)
 
 abbrev pub terms_broken : Tree → List Expr → List Breach
-terms_broken tree es = terms_index_breaches (known_in tree) (all_terms_seen es)
+terms_broken tree es = terms_index_breaches (index_context_in tree) (all_terms_seen es)
 
 abbrev pub maybe_broken : Tree → Option Expr → List Breach
-maybe_broken tree e = maybe_index_breaches (known_in tree) (option_map term_seen e)
+maybe_broken tree e = maybe_index_breaches (index_context_in tree) (option_map term_seen e)
 
 -- the breaches of a command, without those of the commands inside it
 abbrev pub own_breaches : IndexContext → ActionForm → List Breach
@@ -75,14 +75,14 @@ own_breaches known (repeats test body) = term_index_breaches known test
 own_breaches known (counts i declared low high factor body combine combine_place) = turns_breaches low high factor
 
 abbrev pub own_broken : Tree → Command → List Breach
-own_broken tree c = own_breaches (known_in tree) (action_form_seen c.form)
+own_broken tree c = own_breaches (index_context_in tree) (action_form_seen c.form)
 
 -- the breaches in a command, in a block that may lack, and in the parts of a block
 abbrev pub command_broken : Tree → Command → List Breach
-command_broken tree c = action_index_breaches (known_in tree) (action_seen c)
+command_broken tree c = action_index_breaches (index_context_in tree) (action_seen c)
 
 abbrev pub other_broken : Tree → Option (Box Command) → List Breach
-other_broken tree block = other_index_breaches (known_in tree) (maybe_block_seen block)
+other_broken tree block = other_index_breaches (index_context_in tree) (maybe_block_seen block)
 
 abbrev pub parts_broken : Tree → List (Vec Command Global) → List Breach
-parts_broken tree parts = groups_index_breaches (known_in tree) (all_parts_seen parts)
+parts_broken tree parts = groups_index_breaches (index_context_in tree) (all_parts_seen parts)

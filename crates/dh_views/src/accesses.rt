@@ -8,7 +8,7 @@ ghost use Rattle.dh_tree.specs.Indices.{row_breaches, physical_bank_breaches};
 ghost use Rattle.dh_tree.specs.LeastBreach.{least_of};
 ghost use Rattle.dh_tree.specs.Seen.{term_seen};
 ghost use Rattle.dh_shape.specs.Classified.{loops_in};
-ghost use Rattle.dh_views.specs.Kept.{number_bound, copies_of, entry_dims};
+ghost use Rattle.dh_views.specs.Kept.{number_bound, body_copies_of, entry_dimensions};
 ghost use Rattle.dh_views.specs.Walked.{KeepsKind, access_broken, bank_broken, dims_in, index_broken, indices_broken, is_no_row};
 
 use crate::keeping::keep_if;
@@ -29,7 +29,7 @@ fn is_beyond(size: u128, number: i128) -> bool
 
 /// The copies of the body of a loop; 1 for what is no loop.
 fn copies(typed: &Typed, entity: u32) -> u64
-    ensures { result ≡ copies_of (counter_in (loops_in typed.now) (Some entity)) }
+    ensures { result ≡ body_copies_of (counter_in (loops_in typed.now) (Some entity)) }
 {
     match typed.counter(entity) {
         Some(counter) => counter.factor,
@@ -154,7 +154,7 @@ fn keep_row(kept: &mut Option<Breach>, dims: &[Dim], row: &Expr)
 
 /// The dimensions of an entry whose shape breaks no rule.
 fn dims_of(entry: &MemEntry) -> Option<&[Dim]>
-    ensures { option_map (λ d. d.now) result ≡ entry_dims (Some entry.now) }
+    ensures { option_map (λ d. d.now) result ≡ entry_dimensions (Some entry.now) }
 {
     if shape_keeps(&entry.shape) {
         Some(entry.shape.dims.as_slice())
@@ -165,7 +165,7 @@ fn dims_of(entry: &MemEntry) -> Option<&[Dim]>
 
 /// Those of the entry of this number.
 fn dims_at(entries: &[MemEntry], number: usize) -> Option<&[Dim]>
-    ensures { option_map (λ d. d.now) result ≡ entry_dims (slice_get entries.now number) }
+    ensures { option_map (λ d. d.now) result ≡ entry_dimensions (slice_get entries.now number) }
 {
     match entries.get(number) {
         Some(entry) => dims_of(entry),

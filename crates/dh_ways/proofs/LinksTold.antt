@@ -8,7 +8,7 @@ use Rattle.dh_tree.specs.declared.viewing.ViewMap.{ViewMap}
 use Rattle.dh_ways.specs.declared.linking.Link.{Link}
 use Rattle.dh_ways.specs.declared.ways.Hidden.{Hidden}
 use Rattle.dh_ways.specs.Kept.{KeptLed, KeptWay}
-use Rattle.dh_ways.specs.Linked.{AreLinked, AreLinkedOn, CanFollow, IsBefore, IsLinkAt, IsParentAt, IsSplit, hidden_kept, led_by, led_on, views_kept, way_linked, way_over, way_there, ways_linked}
+use Rattle.dh_ways.specs.Linked.{LinksFollowOneAnother, AreLinkedOn, CanFollow, IsBefore, IsLinkAt, IsParentAt, IsSplit, hidden_kept, led_by, led_by_links, views_kept, way_linked, way_over, way_there, ways_linked}
 
 -- Places in lists.
 
@@ -50,7 +50,7 @@ stands_in (x ∷ xs) (suc k) e = let rest = stands_in xs k (less_one k (length x
 
 -- As many views as links.
 
-long_on : (before : List KeptLed) (ls : List Link) → length (led_on before ls) ≡ length before + length ls
+long_on : (before : List KeptLed) (ls : List Link) → length (led_by_links before ls) ≡ length before + length ls
 long_on before [] = plain (length before)
   where
     plain : (n : ℕ) → n ≡ n + 0
@@ -68,7 +68,7 @@ links_long links = long_on [] links ∙ front (length links)
 
 -- The entities of the views.
 
-entities_on : (before : List KeptLed) (ls : List Link) → map (λ (l : KeptLed). l.entity) (led_on before ls) ≡ map (λ (l : KeptLed). l.entity) before ++ map (λ (l : Link). l.entity) ls
+entities_on : (before : List KeptLed) (ls : List Link) → map (λ (l : KeptLed). l.entity) (led_by_links before ls) ≡ map (λ (l : KeptLed). l.entity) before ++ map (λ (l : Link). l.entity) ls
 entities_on before [] = sym (append-nil (map (λ (l : KeptLed). l.entity) before))
 entities_on before (l ∷ ls) =
     entities_on (before ++ led_by before l ∷ []) ls
@@ -81,11 +81,11 @@ entities_are links = entities_on [] links
 -- What stands at a place.
 
 -- views stay where they are when others are added
-stays : (before : List KeptLed) (ls : List Link) (k : ℕ) (x : KeptLed) → slice_get before k ≡ Some x → slice_get (led_on before ls) k ≡ Some x
+stays : (before : List KeptLed) (ls : List Link) (k : ℕ) (x : KeptLed) → slice_get before k ≡ Some x → slice_get (led_by_links before ls) k ≡ Some x
 stays before [] k x e = e
 stays before (l ∷ ls) k x e = stays (before ++ led_by before l ∷ []) ls k x (in_front before (led_by before l ∷ []) k x e)
 
-same_way : (before : List KeptLed) (ls : List Link) (parent : Option ℕ) → IsBefore (length before) parent → way_there before parent ≡ way_there (led_on before ls) parent
+same_way : (before : List KeptLed) (ls : List Link) (parent : Option ℕ) → IsBefore (length before) parent → way_there before parent ≡ way_there (led_by_links before ls) parent
 same_way before ls None h = refl
 same_way before ls (Some k) h = let at = stands_in before k h in ap (option_map (λ (l : KeptLed). l.way)) (at.there ∙ sym (stays before ls k at.item at.there))
 
@@ -98,12 +98,12 @@ pub record LinkTold (ls : List KeptLed) (place : ℕ) (l : Link) : Type 0 where
   pub parent : IsBefore place l.parent
   pub first : l.first ≡ slice_get (way_linked ls l).hidden 0
 
-link_on : (before : List KeptLed) (ls : List Link) (i place : ℕ) (l : Link) → AreLinkedOn before ls → slice_get ls i ≡ Some l → place ≡ length before + i → LinkTold (led_on before ls) place l
+link_on : (before : List KeptLed) (ls : List Link) (i place : ℕ) (l : Link) → AreLinkedOn before ls → slice_get ls i ≡ Some l → place ≡ length before + i → LinkTold (led_by_links before ls) place l
 link_on before [] i place l h e p = absurd (none-some l e)
 link_on before (x ∷ ls) zero place l h e p = subst (λ (y : Link). LinkTold all place y) (same_Some x l e) here
   where
     all : List KeptLed
-    all = led_on before (x ∷ ls)
+    all = led_by_links before (x ∷ ls)
 
     same : way_there before x.parent ≡ way_there all x.parent
     same = same_way before (x ∷ ls) x.parent h.0.parent
@@ -125,7 +125,7 @@ link_on before (x ∷ ls) (suc i) place l h e p = link_on (before ++ led_by befo
     moved : (m n k : ℕ) → m ≡ n + 1 → n + suc k ≡ m + k
     moved m n k e = omega (arith, e)
 
-pub link_told : (links : List Link) (place : ℕ) (l : Link) → AreLinked links → slice_get links place ≡ Some l → LinkTold (ways_linked links) place l
+pub link_told : (links : List Link) (place : ℕ) (l : Link) → LinksFollowOneAnother links → slice_get links place ≡ Some l → LinkTold (ways_linked links) place l
 link_told links place l h e = link_on [] links place place l h e (sym (front place))
 
 -- the item of an index
@@ -184,7 +184,7 @@ pub record HiddenSoFar (links : List Link) (place : ℕ) (hidden : List Hidden) 
   pub inside : IsBefore (length links) next
   pub all : hidden ++ hidden_kept (way_there (ways_linked links) next) ≡ hidden_kept (way_there (ways_linked links) (Some place))
 
-module _ (links : List Link) (place at : ℕ) (l : Link) (linked : AreLinked links) (inside : at < length links) (is : l ≡ get_or links at l) where
+module _ (links : List Link) (place at : ℕ) (l : Link) (linked : LinksFollowOneAnother links) (inside : at < length links) (is : l ≡ get_or links at l) where
   told : LinkTold (ways_linked links) at l
   told = link_told links at l linked (link_read links at l inside is)
 
@@ -230,17 +230,17 @@ view_pushed old new v view e is = ap (map (λ (x : Bor ViewMap). x.now)) e ∙ (
 
 -- One link more.
 
-pushed_on : (before : List KeptLed) (ls : List Link) (l : Link) → led_on before (ls ++ l ∷ []) ≡ led_on before ls ++ led_by (led_on before ls) l ∷ []
+pushed_on : (before : List KeptLed) (ls : List Link) (l : Link) → led_by_links before (ls ++ l ∷ []) ≡ led_by_links before ls ++ led_by (led_by_links before ls) l ∷ []
 pushed_on before [] l = refl
 pushed_on before (x ∷ ls) l = pushed_on (before ++ led_by before x ∷ []) ls l
 
-pub linked_on_more : (before : List KeptLed) (ls : List Link) (l : Link) → AreLinkedOn before ls → CanFollow (led_on before ls) l → AreLinkedOn before (ls ++ l ∷ [])
+pub linked_on_more : (before : List KeptLed) (ls : List Link) (l : Link) → AreLinkedOn before ls → CanFollow (led_by_links before ls) l → AreLinkedOn before (ls ++ l ∷ [])
 linked_on_more before [] l h follows = (follows, tt)
 linked_on_more before (x ∷ ls) l h follows = (h.0, linked_on_more (before ++ led_by before x ∷ []) ls l h.1 follows)
 
-pub linked_pushed : (links new : List Link) (l : Link) (b : Bool) → AreLinked links → CanFollow (ways_linked links) l → new ≡ (if b then links ++ l ∷ [] else links) → AreLinked new
-linked_pushed links new l true h follows is = subst (λ (ls : List Link). AreLinked ls) (sym is) (linked_on_more [] links l h follows)
-linked_pushed links new l false h follows is = subst (λ (ls : List Link). AreLinked ls) (sym is) h
+pub linked_pushed : (links new : List Link) (l : Link) (b : Bool) → LinksFollowOneAnother links → CanFollow (ways_linked links) l → new ≡ (if b then links ++ l ∷ [] else links) → LinksFollowOneAnother new
+linked_pushed links new l true h follows is = subst (λ (ls : List Link). LinksFollowOneAnother ls) (sym is) (linked_on_more [] links l h follows)
+linked_pushed links new l false h follows is = subst (λ (ls : List Link). LinksFollowOneAnother ls) (sym is) h
 
 pub ways_pushed : {E : Type 0} (result : Result (Unit {0}) E) (links new : List Link) (l : Link) → new ≡ (if is_ok result then links ++ l ∷ [] else links) → OnOk result (ways_linked new ≡ ways_linked links ++ led_by (ways_linked links) l ∷ [])
 ways_pushed (Ok u) links new l is = ap ways_linked is ∙ pushed_on [] links l
@@ -251,8 +251,8 @@ ways_pushed (Err e) links new l is = tt
 pub shown_ways : (links shown : List Link) (ways : List KeptLed) → shown ≡ links → ways_linked links ≡ ways → ways_linked shown ≡ ways
 shown_ways links shown ways same are = ap ways_linked same ∙ are
 
-pub shown_linked : (links shown : List Link) → shown ≡ links → AreLinked links → AreLinked shown
-shown_linked links shown same h = subst (λ (ls : List Link). AreLinked ls) (sym same) h
+pub shown_linked : (links shown : List Link) → shown ≡ links → LinksFollowOneAnother links → LinksFollowOneAnother shown
+shown_linked links shown same h = subst (λ (ls : List Link). LinksFollowOneAnother ls) (sym same) h
 
 pub shown_inside : (links shown : List Link) (ways : List KeptLed) (place : ℕ) → shown ≡ links → ways_linked links ≡ ways → place < length ways → place < length shown
 shown_inside links shown ways place same are inside = subst (λ (n : ℕ). place < n) (ap (λ (l : List KeptLed). length l) (sym (shown_ways links shown ways same are)) ∙ links_long shown) inside

@@ -12,7 +12,7 @@ use Rattle.dh_meaning.specs.Ways.{way_in}
 use Rattle.dh_ways.specs.declared.linking.Link.{Link}
 use Rattle.dh_ways.specs.Kept.{KeptLed, KeptWay}
 use Rattle.dh_ways.specs.Linked.{way_there, ways_linked}
-use Rattle.dh_ways.specs.Placed.{ArePlaced, FindsPlace, place_found, place_in}
+use Rattle.dh_ways.specs.Placed.{AreLinkPlaces, FindsPlace, place_found, link_place_in}
 use Rattle.dh_ways.specs.Seen.{led_seen, way_seen}
 use Rattle.dh_ways.proofs.LinksTold.{entities_are}
 
@@ -22,11 +22,11 @@ same_none : (e : Option ℕ) → same_entity e None ≡ false
 same_none None = refl
 same_none (Some n) = refl
 
-none_placed : (vs : List Link) → place_in vs None ≡ None
+none_placed : (vs : List Link) → link_place_in vs None ≡ None
 none_placed [] = refl
-none_placed (v ∷ vs) = ap (λ b. if b then Some 0 else option_map suc (place_in vs None)) (same_none v.entity) ∙ ap (λ o. option_map suc o) (none_placed vs)
+none_placed (v ∷ vs) = ap (λ b. if b then Some 0 else option_map suc (link_place_in vs None)) (same_none v.entity) ∙ ap (λ o. option_map suc o) (none_placed vs)
 
-told : (vs : List Link) (places : List (Option ℕ)) (e : Option ℕ) → ArePlaced vs places → placed_at places e ≡ place_in vs e
+told : (vs : List Link) (places : List (Option ℕ)) (e : Option ℕ) → AreLinkPlaces vs places → placed_at places e ≡ link_place_in vs e
 told vs places None h = sym (none_placed vs)
 told vs places (Some n) h = h n
 
@@ -35,7 +35,7 @@ abbrev place_among : List (Option ℕ) → Option ℕ → Option ℕ
 place_among [] e = None
 place_among (x ∷ xs) e = if same_entity x e then Some 0 else option_map suc (place_among xs e)
 
-among_links : (vs : List Link) (e : Option ℕ) → place_in vs e ≡ place_among (map (λ (l : Link). l.entity) vs) e
+among_links : (vs : List Link) (e : Option ℕ) → link_place_in vs e ≡ place_among (map (λ (l : Link). l.entity) vs) e
 among_links [] e = refl
 among_links (v ∷ vs) e = ap (λ o. if same_entity v.entity e then Some 0 else option_map suc o) (among_links vs e)
 
@@ -53,14 +53,14 @@ among_views [] e = refl
 among_views (v ∷ vs) e = ap (λ o. if same_entity v.entity e then Some 0 else option_map suc o) (among_views vs e)
 
 -- what a table tells of an entity is the place of its view
-pub place_same : (links : List Link) (ways : List KeptLed) (places shown : List (Option ℕ)) (e place : Option ℕ) → ArePlaced links places → ways_linked links ≡ ways → shown ≡ places → place ≡ placed_at shown e → place ≡ place_found ways e
+pub place_same : (links : List Link) (ways : List KeptLed) (places shown : List (Option ℕ)) (e place : Option ℕ) → AreLinkPlaces links places → ways_linked links ≡ ways → shown ≡ places → place ≡ placed_at shown e → place ≡ place_found ways e
 place_same links ways places shown e place h are same is =
     is
     ∙ (ap (λ l. placed_at l e) same
     ∙ (told links places e h
     ∙ (among_links links e ∙ (ap (λ es. place_among es e) (sym (entities_are links)) ∙ (among_views (ways_linked links) e ∙ ap (λ ls. place_found ls e) are)))))
 
-pub finds_place : (links : List Link) (ways : List KeptLed) (places shown : List (Option ℕ)) (e place : Option ℕ) → ArePlaced links places → ways_linked links ≡ ways → shown ≡ places → place ≡ placed_at shown e → FindsPlace ways e place
+pub finds_place : (links : List Link) (ways : List KeptLed) (places shown : List (Option ℕ)) (e place : Option ℕ) → AreLinkPlaces links places → ways_linked links ≡ ways → shown ≡ places → place ≡ placed_at shown e → FindsPlace ways e place
 finds_place links ways places shown e place h are same is = subst (λ (o : Option ℕ). FindsPlace ways e o) (sym (place_same links ways places shown e place h are same is)) (finds_found ways e)
 
 -- the way at that place is that of its view
@@ -97,18 +97,18 @@ behind false b (Some k) n = refl
 behind false true None n = refl
 behind false false None n = refl
 
-place_more : (vs : List Link) (v : Link) (e : Option ℕ) → place_in (vs ++ v ∷ []) e ≡ one_more (place_in vs e) (same_entity v.entity e) (length vs)
+place_more : (vs : List Link) (v : Link) (e : Option ℕ) → link_place_in (vs ++ v ∷ []) e ≡ one_more (link_place_in vs e) (same_entity v.entity e) (length vs)
 place_more [] v e = alone (same_entity v.entity e)
 place_more (x ∷ vs) v e =
     ap (λ r. if same_entity x.entity e then Some 0 else option_map suc r) (place_more vs v e)
-    ∙ behind (same_entity x.entity e) (same_entity v.entity e) (place_in vs e) (length vs)
+    ∙ behind (same_entity x.entity e) (same_entity v.entity e) (link_place_in vs e) (length vs)
 
-module _ (vs : List Link) (v : Link) (old : List (Option ℕ)) (h : ArePlaced vs old) where
-  other : (e : ℕ) → same_entity v.entity (Some e) ≡ false → get_or old e None ≡ place_in (vs ++ v ∷ []) (Some e)
-  other e f = h e ∙ sym (place_more vs v (Some e) ∙ lone (place_in vs (Some e)) (same_entity v.entity (Some e)) (length vs) f)
+module _ (vs : List Link) (v : Link) (old : List (Option ℕ)) (h : AreLinkPlaces vs old) where
+  other : (e : ℕ) → same_entity v.entity (Some e) ≡ false → get_or old e None ≡ link_place_in (vs ++ v ∷ []) (Some e)
+  other e f = h e ∙ sym (place_more vs v (Some e) ∙ lone (link_place_in vs (Some e)) (same_entity v.entity (Some e)) (length vs) f)
 
   -- what is no entity
-  pub none_added : v.entity ≡ None → ArePlaced (vs ++ v ∷ []) old
+  pub none_added : v.entity ≡ None → AreLinkPlaces (vs ++ v ∷ []) old
   none_added none e = other e (ap (λ o. same_entity o (Some e)) none)
 
   module _ (k : ℕ) (entity : v.entity ≡ Some k) where
@@ -116,32 +116,32 @@ module _ (vs : List Link) (v : Link) (old : List (Option ℕ)) (h : ArePlaced vs
     same_as e = ap (λ o. same_entity o (Some e)) entity
 
     -- an entity that is a view already
-    pub placed_before : (a : ℕ) → get_or old k None ≡ Some a → ArePlaced (vs ++ v ∷ []) old
+    pub placed_before : (a : ℕ) → get_or old k None ≡ Some a → AreLinkPlaces (vs ++ v ∷ []) old
     placed_before a s e = by (k == e) refl
       where
-        by : (b : Bool) → (k == e) ≡ b → get_or old e None ≡ place_in (vs ++ v ∷ []) (Some e)
+        by : (b : Bool) → (k == e) ≡ b → get_or old e None ≡ link_place_in (vs ++ v ∷ []) (Some e)
         by false f = other e (same_as e ∙ f)
         by true f =
             let is : k ≡ e = grind (arith, nat_tests, f) in
-            let found : place_in vs (Some e) ≡ Some a = sym (h e) ∙ (ap (λ i. get_or old i None) (sym is) ∙ s) in
-            h e ∙ sym (place_more vs v (Some e) ∙ there (place_in vs (Some e)) (same_entity v.entity (Some e)) (length vs) a found)
+            let found : link_place_in vs (Some e) ≡ Some a = sym (h e) ∙ (ap (λ i. get_or old i None) (sym is) ∙ s) in
+            h e ∙ sym (place_more vs v (Some e) ∙ there (link_place_in vs (Some e)) (same_entity v.entity (Some e)) (length vs) a found)
 
     -- one that is none
-    pub now_placed : get_or old k None ≡ None → k < length old → ArePlaced (vs ++ v ∷ []) (slice_set old k (Some (length vs)))
+    pub now_placed : get_or old k None ≡ None → k < length old → AreLinkPlaces (vs ++ v ∷ []) (slice_set old k (Some (length vs)))
     now_placed s small e = by (k == e) refl
       where
-        by : (b : Bool) → (k == e) ≡ b → get_or (slice_set old k (Some (length vs))) e None ≡ place_in (vs ++ v ∷ []) (Some e)
+        by : (b : Bool) → (k == e) ≡ b → get_or (slice_set old k (Some (length vs))) e None ≡ link_place_in (vs ++ v ∷ []) (Some e)
         by false f =
             let differs : e ≢ k = grind (arith, nat_tests, f) in
             get_or-set_other old k e (Some (length vs)) None differs ∙ other e (same_as e ∙ f)
         by true f =
             let is : k ≡ e = grind (arith, nat_tests, f) in
-            let missing : place_in vs (Some e) ≡ None = sym (h e) ∙ (ap (λ i. get_or old i None) (sym is) ∙ s) in
+            let missing : link_place_in vs (Some e) ≡ None = sym (h e) ∙ (ap (λ i. get_or old i None) (sym is) ∙ s) in
             ap (λ i. get_or (slice_set old k (Some (length vs))) i None) (sym is)
             ∙ (get_or-set_same old k (Some (length vs)) None small
-            ∙ sym (place_more vs v (Some e) ∙ next (place_in vs (Some e)) (same_entity v.entity (Some e)) (length vs) missing (same_as e ∙ f)))
+            ∙ sym (place_more vs v (Some e) ∙ next (link_place_in vs (Some e)) (same_entity v.entity (Some e)) (length vs) missing (same_as e ∙ f)))
 
 -- what is no entity is pushed behind others, or is not
-pub none_pushed : (vs new : List Link) (v : Link) (places : List (Option ℕ)) (b : Bool) → ArePlaced vs places → v.entity ≡ None → new ≡ (if b then vs ++ v ∷ [] else vs) → ArePlaced new places
-none_pushed vs new v places true h none is = subst (λ (l : List Link). ArePlaced l places) (sym is) (none_added vs v places h none)
-none_pushed vs new v places false h none is = subst (λ (l : List Link). ArePlaced l places) (sym is) h
+pub none_pushed : (vs new : List Link) (v : Link) (places : List (Option ℕ)) (b : Bool) → AreLinkPlaces vs places → v.entity ≡ None → new ≡ (if b then vs ++ v ∷ [] else vs) → AreLinkPlaces new places
+none_pushed vs new v places true h none is = subst (λ (l : List Link). AreLinkPlaces l places) (sym is) (none_added vs v places h none)
+none_pushed vs new v places false h none is = subst (λ (l : List Link). AreLinkPlaces l places) (sym is) h

@@ -16,7 +16,7 @@ use Rattle.dh_ways.specs.declared.ways.Hidden as own
 use Rattle.dh_ways.specs.Kept as kept
 use Rattle.dh_ways.specs.Linked.{hidden_kept, views_kept, way_linked, way_there}
 use Rattle.dh_ways.specs.Placed.{FindsPlace}
-use Rattle.dh_ways.specs.Traced.{IsLinkOf, IsLinked, LeadsNext, led_in}
+use Rattle.dh_ways.specs.Traced.{IsLinkOf, IsLinkAddingViews, LeadsNext, led_in}
 use Rattle.dh_ways.specs.Seen.{hidden_seen, led_seen, way_seen}
 use Rattle.dh_ways.specs.Stands.{Stand, own_of, stand_seen, view_site_of, standing_seen}
 use Rattle.dh_ways.proofs.PlacedWays.{found_way}
@@ -70,7 +70,7 @@ abbrev led_as : Option ℕ → Way → List Led
 led_as e w = record { entity = e; way = w } ∷ []
 
 -- a link adds the view of which it is
-pub link_leads : (before : List kept.KeptLed) (s : ViewSite) (hs : List own.Hidden) (made v : ViewMap) (parent : Option Way) (l : Link) → made ≡ v → IsLinkOf before s hs made parent l → IsLinked before s hs (λ first. led_as s.name.entity (way_behind first s v parent)) (Some l)
+pub link_leads : (before : List kept.KeptLed) (s : ViewSite) (hs : List own.Hidden) (made v : ViewMap) (parent : Option Way) (l : Link) → made ≡ v → IsLinkOf before s hs made parent l → IsLinkAddingViews before s hs (λ first. led_as s.name.entity (way_behind first s v parent)) (Some l)
 link_leads before s hs made v parent l is of = record {
   follows = of.follows;
   led = λ first kept_in.
@@ -79,18 +79,18 @@ link_leads before s hs made v parent l is of = record {
 }
 
 -- it adds what equals that
-pub added_as : (before : List kept.KeptLed) (s : ViewSite) (hs : List own.Hidden) (f g : ℕ → List Led) (link : Option Link) → ((first : ℕ) → f first ≡ g first) → IsLinked before s hs f link → IsLinked before s hs g link
+pub added_as : (before : List kept.KeptLed) (s : ViewSite) (hs : List own.Hidden) (f g : ℕ → List Led) (link : Option Link) → ((first : ℕ) → f first ≡ g first) → IsLinkAddingViews before s hs f link → IsLinkAddingViews before s hs g link
 added_as before s hs f g link same h = record { follows = h.follows; led = λ first kept_in. h.led first kept_in ∙ same first }
 
 -- where the parent is one of these
 pub led_behind_one : (before : List kept.KeptLed) (s : ViewSite) (hs : List own.Hidden) (place : ℕ) (w : kept.KeptWay) (link : Option Link) → FindsPlace before s.parent.entity (Some place) → Some w ≡ way_there before (Some place)
-    → IsLinked before s hs (λ first. led_of first s (Some w.view.shape) (Some (way_seen w))) link → IsLinked before s hs (led_in (map led_seen before) s) link
+    → IsLinkAddingViews before s hs (λ first. led_of first s (Some w.view.shape) (Some (way_seen w))) link → IsLinkAddingViews before s hs (led_in (map led_seen before) s) link
 led_behind_one before s hs place w link at there h =
     let found : Some (way_seen w) ≡ way_in (map led_seen before) s.parent.entity = found_way before s.parent.entity place w at there in
     added_as before s hs (λ first. led_of first s (Some w.view.shape) (Some (way_seen w))) (led_in (map led_seen before) s) link (λ first. ap (λ o. led_of first s (shape_named None o) o) found) h
 
 -- and where it is none
-pub led_behind_none : (before : List kept.KeptLed) (s : ViewSite) (hs : List own.Hidden) → FindsPlace before s.parent.entity None → IsLinked before s hs (led_in (map led_seen before) s) None
+pub led_behind_none : (before : List kept.KeptLed) (s : ViewSite) (hs : List own.Hidden) → FindsPlace before s.parent.entity None → IsLinkAddingViews before s hs (led_in (map led_seen before) s) None
 led_behind_none before s hs none = record { follows = tt; led = λ first kept_in. ap (λ o. led_of first s (shape_named None o) o) (sym none) }
 
 -- What the parent is.

@@ -45,12 +45,12 @@ abbrev pub with_link : (before : List KeptLed) → Link → List KeptLed
 with_link before l = before ++ led_by before l ∷ []
 
 -- the views of links, behind these
-abbrev pub led_on : (before : List KeptLed) → List Link → List KeptLed
-led_on before [] = before
-led_on before (l ∷ ls) = led_on (before ++ led_by before l ∷ []) ls
+abbrev pub led_by_links : (before : List KeptLed) → List Link → List KeptLed
+led_by_links before [] = before
+led_by_links before (l ∷ ls) = led_by_links (before ++ led_by before l ∷ []) ls
 
 abbrev pub ways_linked : List Link → List KeptLed
-ways_linked links = led_on [] links
+ways_linked links = led_by_links [] links
 
 -- the views on the way of the one at a place
 abbrev pub views_linked : List Link → (place : ℕ) → List ViewMap
@@ -73,12 +73,12 @@ abbrev pub AreLinkedOn : (before : List KeptLed) → List Link → Type 0
 AreLinkedOn before [] = Unit {0}
 AreLinkedOn before (l ∷ ls) = CanFollow before l × AreLinkedOn (before ++ led_by before l ∷ []) ls
 
-abbrev pub AreLinked : List Link → Type 0
-AreLinked links = AreLinkedOn [] links
+abbrev pub LinksFollowOneAnother : List Link → Type 0
+LinksFollowOneAnother links = AreLinkedOn [] links
 
 -- this is the link at a place among links that follow one another
 pub record IsLinkAt (links : List Link) (place : ℕ) (l : Link) : Type 0 where
-  pub linked : AreLinked links
+  pub linked : LinksFollowOneAnother links
   pub there : slice_get links place ≡ Some l
 
 -- What is told of ways.

@@ -4,6 +4,6 @@ use Rattle.dh_ways.specs.declared.variables.Held.{Held}
 use Rattle.dh_ways.specs.declared.variables.Held.TheVariants.{Alone, All}
 use Rattle.dh_ways.specs.declared.ways.Hidden.{Hidden}
 
-abbrev pub all_held : Held → List Hidden
-all_held (Alone one) = one
-all_held (All all) = all
+abbrev pub held_variables : Held → List Hidden
+held_variables (Alone one) = one
+held_variables (All all) = all

@@ -7,18 +7,18 @@ use Rattle.dh_ways.specs.Kept.{KeptLed}
 use Rattle.dh_ways.specs.Seen.{led_seen, way_seen}
 
 -- the place among links of that of the first view that is this entity, if one is
-abbrev pub place_in : List Link → Option ℕ → Option ℕ
-place_in [] entity = None
-place_in (l ∷ ls) entity = if same_entity l.entity entity then Some 0 else option_map suc (place_in ls entity)
+abbrev pub link_place_in : List Link → Option ℕ → Option ℕ
+link_place_in [] entity = None
+link_place_in (l ∷ ls) entity = if same_entity l.entity entity then Some 0 else option_map suc (link_place_in ls entity)
 
 -- of each entity the place of its view, if it is one
-abbrev pub ArePlaced : List Link → (places : List (Option ℕ)) → Type 0
-ArePlaced ls places = (entity : ℕ) → get_or places entity None ≡ place_in ls (Some entity)
+abbrev pub AreLinkPlaces : List Link → (places : List (Option ℕ)) → Type 0
+AreLinkPlaces ls places = (entity : ℕ) → get_or places entity None ≡ link_place_in ls (Some entity)
 
 -- where an entity is the next view behind those that are placed, and this is its place, it is placed too
-abbrev pub PlacesNext : (entity place : ℕ) → (old new : List (Option ℕ)) → Type 0
-PlacesNext entity place old new =
-    (ls : List Link) (l : Link) → ArePlaced ls old → place ≡ length ls → l.entity ≡ Some entity → ArePlaced (ls ++ l ∷ []) new
+abbrev pub PlacesNextLink : (entity place : ℕ) → (old new : List (Option ℕ)) → Type 0
+PlacesNextLink entity place old new =
+    (ls : List Link) (l : Link) → AreLinkPlaces ls old → place ≡ length ls → l.entity ≡ Some entity → AreLinkPlaces (ls ++ l ∷ []) new
 
 -- the place of the first view that is this entity, if one is
 abbrev pub place_found : List KeptLed → Option ℕ → Option ℕ

@@ -35,7 +35,7 @@ pub record IsLinkOf (before : List kept.KeptLed) (s : ViewSite) (own : List Hidd
   pub follows : CanFollow before l
 
 -- a link by which these views are added, wherever the offsets of the one are kept in these variables
-pub record IsLinked (before : List kept.KeptLed) (s : ViewSite) (own : List Hidden) (added : ℕ → List Led) (link : Option Link) : Type 0 where
+pub record IsLinkAddingViews (before : List kept.KeptLed) (s : ViewSite) (own : List Hidden) (added : ℕ → List Led) (link : Option Link) : Type 0 where
   pub follows : MayFollow before link
   pub led : (first : ℕ) → map hidden_seen own ≡ hidden_of first s → linked_on before link ≡ added first
 
@@ -56,7 +56,7 @@ IsLinkBehind place parent s own made l =
 abbrev pub LinksBehind : (place : ℕ) → (parent : kept.KeptWay) → ViewSite → (own : List Hidden) → Option Link → Type 0
 LinksBehind place parent s own link =
     (before : List kept.KeptLed) → place < length before → Some parent ≡ way_there before (Some place)
-    → IsLinked before s own (λ first. led_of first s (Some parent.view.shape) (Some (way_seen parent))) link
+    → IsLinkAddingViews before s own (λ first. led_of first s (Some parent.view.shape) (Some (way_seen parent))) link
 
 -- a view is added behind others, and its variables behind others; and so are views
 abbrev pub AddsWay : Tree → (old new : List kept.KeptLed) → (hidden more : List Hidden) → (first next : ℕ) → Stood → Type 0

@@ -2,7 +2,7 @@
 //! and ways, which are read link by link.
 
 ghost use Rattle.std.specs.Prelude.{◌≡◌, ◌<◌, ◌∷◌, Some, length, map, option_map, slice_get, IfOk};
-ghost use Rattle.dh_ways.specs.Linked.{AreLinked, IsLinkAt, IsParentAt, IsSplit, hidden_kept, views_linked, way_there, ways_linked};
+ghost use Rattle.dh_ways.specs.Linked.{LinksFollowOneAnother, IsLinkAt, IsParentAt, IsSplit, hidden_kept, views_linked, way_there, ways_linked};
 
 use crate::hiding::append;
 use crate::variables::Own;
@@ -36,7 +36,7 @@ pub(crate) struct Link {
 
 /// The place of the parent of the view at a place; None of a view of a memory.
 pub(crate) fn parent_of(links: &[Link], place: usize) -> Option<usize>
-    requires linked { AreLinked links.now }
+    requires linked { LinksFollowOneAnother links.now }
     requires there { place < length links.now }
     ensures { IsParentAt (ways_linked links.now) place result }
 {
@@ -45,7 +45,7 @@ pub(crate) fn parent_of(links: &[Link], place: usize) -> Option<usize>
 
 /// The entity of the view at a place, if it has one.
 pub(crate) fn entity_of(links: &[Link], place: usize) -> Option<u32>
-    requires linked { AreLinked links.now }
+    requires linked { LinksFollowOneAnother links.now }
     requires there { place < length links.now }
     ensures { Some result ≡ option_map (λ l. l.entity) (slice_get (ways_linked links.now) place) }
 {
@@ -54,7 +54,7 @@ pub(crate) fn entity_of(links: &[Link], place: usize) -> Option<u32>
 
 /// The way of the view at a place.
 pub(crate) fn way_at(links: &[Link], place: usize) -> WayRef<'_>
-    requires linked { AreLinked links.now }
+    requires linked { LinksFollowOneAnother links.now }
     requires there { place < length links.now }
     ensures { Some result ≡ way_there (ways_linked links.now) (Some place) }
 {
@@ -75,7 +75,7 @@ fn way_behind<'a>(links: &'a [Link], place: usize, link: &Link) -> Option<WayRef
 
 /// The views on the way of the view at a place.
 fn views_from(alloc: Global, links: &[Link], place: usize) -> Result<Vec<&ViewMap>, NoMemory>
-    requires linked { AreLinked links.now }
+    requires linked { LinksFollowOneAnother links.now }
     requires there { place < length links.now }
     ensures { IfOk result (λ views. map (λ v. v.now) views.items ≡ views_linked links.now place) }
 {
@@ -91,7 +91,7 @@ fn views_from(alloc: Global, links: &[Link], place: usize) -> Result<Vec<&ViewMa
 
 /// Where the offsets on that way are kept.
 fn hidden_from(alloc: Global, links: &[Link], place: usize) -> Result<Items<Hidden>, NoMemory>
-    requires linked { AreLinked links.now }
+    requires linked { LinksFollowOneAnother links.now }
     requires there { place < length links.now }
     ensures { IfOk result (λ hidden. hidden
         ≡ hidden_kept (way_there (ways_linked links.now) (Some place))) }

@@ -2,8 +2,8 @@
 
 ghost use Rattle.std.specs.Prelude.{◌≡◌, ◌<◌, [], ◌∷◌, ◌++◌, if◌then◌else◌, is_ok, length, map, option_map, slice_get, Some, IfOk, OnOk};
 ghost use Rattle.dh_meaning.specs.Ways.{way_in};
-ghost use Rattle.dh_ways.specs.Linked.{AreLinked, CanFollow, IsParentAt, led_by, way_there, ways_linked, with_link};
-ghost use Rattle.dh_ways.specs.Placed.{ArePlaced, FindsPlace, PlacesNext, place_found};
+ghost use Rattle.dh_ways.specs.Linked.{LinksFollowOneAnother, CanFollow, IsParentAt, led_by, way_there, ways_linked, with_link};
+ghost use Rattle.dh_ways.specs.Placed.{AreLinkPlaces, FindsPlace, PlacesNextLink, place_found};
 ghost use Rattle.dh_ways.specs.Seen.{led_seen, way_seen};
 
 use crate::linking::{Link, WayRef, entity_of, parent_of, way_at};
@@ -16,7 +16,7 @@ use std::marker::Model;
 /// for its first view.
 fn note(places: &mut [Option<usize>], entity: usize, place: usize)
     requires { entity < length places.now }
-    ensures { PlacesNext entity place places.old places.new }
+    ensures { PlacesNextLink entity place places.old places.new }
 {
     if places[entity].is_none() {
         places[entity] = Some(place);
@@ -31,9 +31,9 @@ fn add_entity(
     link: Link,
 ) -> Result<(), NoMemory>
     requires small { entity < 4294967296 }
-    requires placed { ArePlaced links.now places.now.items }
+    requires placed { AreLinkPlaces links.now places.now.items }
     requires entity { link.entity ≡ Some entity }
-    ensures placed { ArePlaced links.new places.new.items }
+    ensures placed { AreLinkPlaces links.new places.new.items }
     ensures added { links.new ≡ (if is_ok result then links.old ++ link ∷ [] else links.old) }
 {
     let place = links.len();
@@ -45,11 +45,11 @@ fn add_entity(
 
 /// Adds a view behind others.
 fn add(links: &mut Items<Link>, places: &mut Vec<Option<usize>>, link: Link) -> Result<(), NoMemory>
-    requires placed { ArePlaced links.now places.now.items }
-    requires linked { AreLinked links.now }
+    requires placed { AreLinkPlaces links.now places.now.items }
+    requires linked { LinksFollowOneAnother links.now }
     requires follows { CanFollow (ways_linked links.now) link }
-    ensures placed { ArePlaced links.new places.new.items }
-    ensures linked { AreLinked links.new }
+    ensures placed { AreLinkPlaces links.new places.new.items }
+    ensures linked { LinksFollowOneAnother links.new }
     ensures added { OnOk result (ways_linked links.new ≡ with_link (ways_linked links.old) link) }
 {
     let entity = link.entity;
@@ -71,14 +71,14 @@ pub struct WayTable {
 impl Model for WayTable {
     ghost use Rattle.std.specs.Prelude.{List};
     ghost use Rattle.dh_ways.specs.Kept.{KeptLed};
-    ghost use Rattle.dh_ways.specs.Linked.{AreLinked, ways_linked};
-    ghost use Rattle.dh_ways.specs.Placed.{ArePlaced};
+    ghost use Rattle.dh_ways.specs.Linked.{LinksFollowOneAnother, ways_linked};
+    ghost use Rattle.dh_ways.specs.Placed.{AreLinkPlaces};
 
     ghost Value = { List KeptLed };
 
     ghost view = { λ t. ways_linked t.links };
 
-    ghost invariant = { λ t. ArePlaced t.links t.places.items × AreLinked t.links };
+    ghost invariant = { λ t. AreLinkPlaces t.links t.places.items × LinksFollowOneAnother t.links };
 }
 
 impl WayTable {

@@ -9,7 +9,7 @@ ghost use Rattle.dh_meaning.specs.Ways as definitions;
 ghost use Rattle.dh_meaning.specs.Ways.{behind_all, led_after, led_of, ways_of};
 ghost use Rattle.dh_ways.specs.CutStands.{HasFewWays};
 ghost use Rattle.dh_ways.specs.Kept.{KeptLed};
-ghost use Rattle.dh_ways.specs.Traced.{AddsWay, AddsWays, AreWaysOf, IsFirstOr, IsLinkBehind, IsLinkOf, IsLinked, LinksBehind, MayFollow, led_in, linked_on};
+ghost use Rattle.dh_ways.specs.Traced.{AddsWay, AddsWays, AreWaysOf, IsFirstOr, IsLinkBehind, IsLinkOf, IsLinkAddingViews, LinksBehind, MayFollow, led_in, linked_on};
 ghost use Rattle.dh_ways.specs.Seen.{led_seen};
 ghost use Rattle.dh_ways.specs.Stands.{stand_seen, standing_seen};
 
@@ -125,7 +125,7 @@ fn lead_memory(
     own: Own,
     shape: &Shape,
 ) -> Result<Option<Link>, NoMemory>
-    ensures { IfOk result (λ link. (before : List KeptLed) → IsLinked before (standing_seen view.now)
+    ensures { IfOk result (λ link. (before : List KeptLed) → IsLinkAddingViews before (standing_seen view.now)
         own (λ first. led_of first (standing_seen view.now) (Some shape.now) None) link) }
 {
     let made = maps.map_to(alloc, view.form, shape)?;
@@ -157,7 +157,7 @@ fn lead_behind(
     view: &Stood<'_>,
     own: Own,
 ) -> Result<Option<Link>, NoMemory>
-    ensures { IfOk result (λ link. IsLinked ways.now (standing_seen view.now) own
+    ensures { IfOk result (λ link. IsLinkAddingViews ways.now (standing_seen view.now) own
         (led_in (map led_seen ways.now) (standing_seen view.now)) link) }
 {
     match ways.place_of(view.parent.entity) {
@@ -178,7 +178,7 @@ fn link_of_view(
     view: &Stood<'_>,
     own: Own,
 ) -> Result<Option<Link>, NoMemory>
-    ensures { IfOk result (λ link. IsLinked ways.now (standing_seen view.now) own
+    ensures { IfOk result (λ link. IsLinkAddingViews ways.now (standing_seen view.now) own
         (λ first. led_after (memories_of (program_seen typed.now)) first (map led_seen ways.now)
         (standing_seen view.now)) link) }
 {

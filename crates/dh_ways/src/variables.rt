@@ -23,11 +23,11 @@ pub(crate) struct Own {
 impl Model for Own {
     ghost use Rattle.std.specs.Prelude.{List};
     ghost use Rattle.dh_ways.specs.declared.ways.Hidden.{Hidden};
-    ghost use Rattle.dh_ways.specs.OwnVariables.{all_held};
+    ghost use Rattle.dh_ways.specs.OwnVariables.{held_variables};
 
     ghost Value = { List Hidden };
 
-    ghost view = { λ o. all_held o.held };
+    ghost view = { λ o. held_variables o.held };
 }
 
 impl Own {

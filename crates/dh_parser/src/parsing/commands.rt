@@ -2,7 +2,7 @@
 
 ghost use Rattle.std.specs.Prelude.{◌≡◌, ◌<◌, ◌≤◌, ◌+◌, ◌^◌, [], ◌∷◌, ◌++◌, length, IfOk};
 ghost use Rattle.dh_tree.specs.Seen.{action_seen};
-ghost use Rattle.dh_parser.specs.Answers.{Made, MadeOf, SameArms, SameAsked, SameBlock, SameCompound, SameIf, SameElseIf, SameElse, SamePart, SameParts, SameTerm, begins_as, AnswersAs, NumbersAs, SameBoxedBlock, SameCombineAt, TookTokens, arms_with, block_around, block_seen, if_seen, loop_seen, while_seen, most_commands};
+ghost use Rattle.dh_parser.specs.Answers.{MadeIfMemorySuffices, MadeOf, SameArms, SameAsked, SameBlock, SameCompound, SameIf, SameElseIf, SameElse, SamePart, SameParts, SameTerm, begins_as, AnswersAs, NumbersAs, SameBoxedBlock, SameCombineAt, TookTokens, arms_with, block_around, block_seen, if_seen, loop_seen, while_seen, most_commands};
 ghost use Rattle.dh_parser.specs.Parts.{the_arms, the_asked};
 ghost use Rattle.dh_parser.specs.Reading.{the, the_test, the_compound, the_block, whole_if, whole_else, the_while, the_for, beginning};
 ghost use Rattle.dh_parser.specs.StepsEnough.{all_parts, whole_combine, whole_part};
@@ -72,7 +72,7 @@ pub(crate) fn read_sequence(reader: &mut Reader<'_>) -> Result<Vec<Vec<Command>>
 /// Puts a part behind others, which more follow or none. Most blocks have one part or two: the list of such
 /// is made once, of its size.
 fn put_part(parts: &mut Vec<Vec<Command>>, part: Vec<Command>, more: bool) -> Result<(), Stop>
-    ensures { Made (λ _. parts.new.items ≡ parts.old.items ++ part ∷ []) result }
+    ensures { MadeIfMemorySuffices (λ _. parts.new.items ≡ parts.old.items ++ part ∷ []) result }
 {
     let Ok(()) = first_room(parts, more) else {
         // a call, in the place of the drop of each command
@@ -145,7 +145,7 @@ fn read_part(reader: &mut Reader<'_>) -> Result<Vec<Command>, Stop>
 /// A list with room for the commands that these tokens begin with. It is made before they are read, so that in
 /// memory it lies in front of what is inside, as every pass walks.
 fn room_for(alloc: Global, tokens: &[Token]) -> Result<Vec<Command>, Stop>
-    ensures { Made (λ commands. commands.items ≡ []) result }
+    ensures { MadeIfMemorySuffices (λ commands. commands.items ≡ []) result }
 {
     let commands = Vec::with_capacity(alloc, commands_in_sight(tokens))?;
     Ok(commands)
@@ -153,7 +153,7 @@ fn room_for(alloc: Global, tokens: &[Token]) -> Result<Vec<Command>, Stop>
 
 /// Puts a command behind others.
 fn append(commands: &mut Vec<Command>, command: Command) -> Result<(), Stop>
-    ensures { Made (λ _. commands.new.items ≡ commands.old.items ++ command ∷ []) result }
+    ensures { MadeIfMemorySuffices (λ _. commands.new.items ≡ commands.old.items ++ command ∷ []) result }
 {
     room_for_second(commands);
     commands.push(command)?;
@@ -370,7 +370,7 @@ fn read_else_if(reader: &mut Reader<'_>) -> Result<Command, Stop>
 
 /// The block of this number that holds this command alone.
 fn block_of_one(alloc: Global, id: u32, inner: Command) -> Result<Command, Stop>
-    ensures { Made (λ block. action_seen block ≡ block_around id inner) result }
+    ensures { MadeIfMemorySuffices (λ block. action_seen block ≡ block_around id inner) result }
 {
     let place = inner.place;
     let mut part = Vec::new(alloc);
@@ -440,7 +440,7 @@ fn counted_loop(
     combine: Option<Box<Command>>,
     combine_place: Place,
 ) -> Result<Command, Stop>
-    ensures { Made (λ c. action_seen c ≡ loop_seen id head body combine combine_place) result }
+    ensures { MadeIfMemorySuffices (λ c. action_seen c ≡ loop_seen id head body combine combine_place) result }
 {
     let LoopHead {
         place,

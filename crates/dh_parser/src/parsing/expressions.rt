@@ -4,7 +4,7 @@ ghost use Rattle.std.specs.Prelude.{◌≡◌, ◌≤◌, ◌++◌, ◌∷◌, [
 ghost use Rattle.dh_tree.specs.declared.trees.expressions.Expr.{Expr};
 ghost use Rattle.dh_tree.specs.PlainTrees.{term, number, truth_value};
 ghost use Rattle.dh_tree.specs.Seen.{form_seen, term_seen};
-ghost use Rattle.dh_parser.specs.Answers.{Made, MadeOf, SameTerm, SameIndices, AnswersAfterName, AnswersAs, AnswersTerm, SameAccess, SameArguments, SameBank, SameCast, SameCastOf, SameIndex, SameRow, TookTokens, element_seen, joined_expressions, row_seen};
+ghost use Rattle.dh_parser.specs.Answers.{MadeIfMemorySuffices, MadeOf, SameTerm, SameIndices, AnswersAfterName, AnswersAs, AnswersTerm, SameAccess, SameArguments, SameBank, SameCast, SameCastOf, SameIndex, SameRow, TookTokens, element_seen, joined_expressions, written_row_seen};
 ghost use Rattle.dh_parser.specs.Parts.{the_bank, the_row};
 ghost use Rattle.dh_parser.specs.Reading.{the, expression, operand, named_from, access_from, all_indices, the_index, bracket_from, the_cast, the_argument, the_arguments};
 ghost use Rattle.dh_parser.specs.declared.parsing.reading.Mark.TheVariants as sign;
@@ -320,7 +320,7 @@ fn element_of(of: Ref, indices: Result<Vec<Expr>, Stop>) -> Result<Expr, Stop>
 
 /// `of{bank}[row]`, where its bank and its row were read.
 fn row_of(alloc: Global, of: Ref, row: Result<WrittenRow, Stop>) -> Result<Expr, Stop>
-    ensures { MadeOf (λ read e. term_seen e ≡ row_seen of read) row result }
+    ensures { MadeOf (λ read e. term_seen e ≡ written_row_seen of read) row result }
 {
     match row {
         Ok(row) => physical(alloc, of, row),
@@ -330,7 +330,7 @@ fn row_of(alloc: Global, of: Ref, row: Result<WrittenRow, Stop>) -> Result<Expr,
 
 /// `of{bank}[row]`
 fn physical(alloc: Global, of: Ref, written: WrittenRow) -> Result<Expr, Stop>
-    ensures { Made (λ e. term_seen e ≡ row_seen of written) result }
+    ensures { MadeIfMemorySuffices (λ e. term_seen e ≡ written_row_seen of written) result }
 {
     let WrittenRow { bank, row } = written;
     let row = Box::new(alloc, row)?;
@@ -357,7 +357,7 @@ fn joined_with(alloc: Global, op: Op, left: Expr, right: Result<Expr, Stop>) -> 
 
 /// `left op right`
 fn joined(alloc: Global, op: Op, left: Expr, right: Expr) -> Result<Expr, Stop>
-    ensures { Made (λ e. term_seen e ≡ joined_expressions op left right) result }
+    ensures { MadeIfMemorySuffices (λ e. term_seen e ≡ joined_expressions op left right) result }
 {
     let place = left.place;
     let form = ExprForm::Binary {

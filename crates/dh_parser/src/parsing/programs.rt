@@ -1,7 +1,7 @@
 //! Whole programs: declarations and functions in any order, and then the body.
 
 ghost use Rattle.std.specs.Prelude.{◌≡◌, ◌<◌, ◌≤◌, ◌^◌, length, IfOk, IfSome};
-ghost use Rattle.dh_parser.specs.Answers.{Made, Kept, SameDecl, SameFunction, SameItem, SameItems, AnswersAfterWord, AnswersAs, NumbersAs, ParameterOfParts, SameBody, SameFurtherParameter, SameParameter, SameParameters, SameProgram, TookTokens, most_commands};
+ghost use Rattle.dh_parser.specs.Answers.{MadeIfMemorySuffices, Kept, SameDecl, SameFunction, SameItem, SameItems, AnswersAfterWord, AnswersAs, NumbersAs, ParameterOfParts, SameBody, SameFurtherParameter, SameParameter, SameParameters, SameProgram, TookTokens, most_commands};
 ghost use Rattle.dh_parser.specs.Reading.{the_parameter, further_parameter, the_parameters, the_decl, the_def, the_item, the_body, the_program};
 ghost use Rattle.dh_parser.specs.StepsEnough.{all_items};
 
@@ -68,7 +68,7 @@ fn read_items(reader: &mut Reader<'_>) -> Result<ItemsRead, Stop>
 
 /// Puts an item behind those of its sort.
 fn keep(items: &mut ItemsRead, item: Item) -> Result<(), Stop>
-    ensures { Made (λ _. Kept item items.old items.new) result }
+    ensures { MadeIfMemorySuffices (λ _. Kept item items.old items.new) result }
 {
     match item {
         Item::Decl(decl) => {

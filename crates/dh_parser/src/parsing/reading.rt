@@ -1,10 +1,10 @@
 //! Where the parser stands, and the single tokens that it takes.
 
 ghost use Rattle.std.specs.Prelude.{◌≡◌, ◌<◌, ◌≤◌, ◌+◌, ◌^◌, None, length, IfOk, IfErr};
-ghost use Rattle.dh_parser.specs.Answers.{IfWanting, StandsAt, Took, AnswersAs, SameNumeral, TookTokens};
+ghost use Rattle.dh_parser.specs.Answers.{IfWanting, IsFirstTokenPlace, Took, AnswersAs, SameNumeral, TookTokens};
 ghost use Rattle.dh_parser.specs.Marks as marks;
 ghost use Rattle.dh_parser.specs.Marks.{comes};
-ghost use Rattle.dh_parser.specs.Reading.{the, the_number, the_name, goes_on};
+ghost use Rattle.dh_parser.specs.Reading.{the, the_number, the_name, access_goes_on};
 ghost use Rattle.dh_parser.specs.TreesOfTexts.{ref_of};
 ghost use Rattle.dh_parser.specs.declared.parsing.reading.Stop.TheVariants as stop;
 
@@ -165,7 +165,7 @@ pub(crate) struct Numeral {
 impl Reader<'_> {
     /// The place of the next token.
     pub fn place(&self) -> Result<Place, Stop>
-        ensures { StandsAt result self.now.rest.now }
+        ensures { IsFirstTokenPlace result self.now.rest.now }
     {
         match self.rest {
             [token, ..] => Ok(token.place),
@@ -187,7 +187,7 @@ impl Reader<'_> {
     /// Whether an access goes on here, after its name.
     #[inline(always)]
     pub fn goes_on(&self) -> bool
-        ensures { result ≡ goes_on self.now.rest.now }
+        ensures { result ≡ access_goes_on self.now.rest.now }
     {
         self.is_next(Mark::OpenBracket) || self.is_next(Mark::OpenBrace)
     }

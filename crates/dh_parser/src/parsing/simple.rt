@@ -2,7 +2,7 @@
 
 ghost use Rattle.std.specs.Prelude.{◌≡◌, ◌<◌, ◌≤◌, ◌^◌, None, length, IfOk};
 ghost use Rattle.dh_tree.specs.Seen.{action_form_seen};
-ghost use Rattle.dh_parser.specs.Answers.{SameSimple, AnswersAfterWord, AnswersAs, AnswersNamed, AnswersSimple, NumbersAs, SameSimpleCommand, SameValue, TookTokens, most_commands, typed_let_seen, Made};
+ghost use Rattle.dh_parser.specs.Answers.{SameSimple, AnswersAfterWord, AnswersAs, AnswersNamed, AnswersSimple, NumbersAs, SameSimpleCommand, SameValue, TookTokens, most_commands, typed_let_seen, MadeIfMemorySuffices};
 ghost use Rattle.dh_parser.specs.Reading.{the_simple, let_from, after_name, store_from, the_value};
 
 use crate::parsing::expressions::{read_access, read_arguments, read_expression};
@@ -91,7 +91,7 @@ fn typed_let(
     written: WrittenType,
     value: Option<Expr>,
 ) -> Result<CommandForm, Stop>
-    ensures { Made (λ form. action_form_seen form ≡ typed_let_seen name written value) result }
+    ensures { MadeIfMemorySuffices (λ form. action_form_seen form ≡ typed_let_seen name written value) result }
 {
     let WrittenType {
         shape,

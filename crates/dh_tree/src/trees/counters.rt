@@ -5,7 +5,7 @@ ghost use Rattle.dh_tree.specs.Seen.{action_seen, all_parts_seen, maybe_block_se
 ghost use Rattle.dh_tree.specs.Counters.{counters, other_counters, groups_counters, AreSingle};
 ghost use Rattle.dh_tree.specs.Excesses.{copies_excess, other_copies_excess, groups_copies_excess};
 ghost use Rattle.dh_tree.specs.Resolved.{HasEntities};
-ghost use Rattle.dh_tree.specs.Collected.{AreCounted, AreLoopsOf, CountsNext, FindsFew, FindsLoops, GoesInside, counter_of};
+ghost use Rattle.dh_tree.specs.Collected.{AreCountersByEntity, AreLoopsOf, CountsNext, FindsFew, FindsLoops, GoesInside, counter_of_header};
 
 use crate::trees::sorts::declare_no_loop;
 use crate::trees::{Command, CommandForm, LoopHeader, Tree};
@@ -39,7 +39,7 @@ pub struct Loops {
 
 /// The loop with this header.
 fn counted(header: &LoopHeader) -> Counter
-    ensures { result ≡ counter_of header.now }
+    ensures { result ≡ counter_of_header header.now }
 {
     Counter {
         entity: header.iterator.entity,
@@ -170,7 +170,7 @@ fn no_loops(alloc: Global, count: usize) -> Result<Vec<Option<Counter>>, NoMemor
 /// Notes loops, in order.
 fn note_loops(slots: &mut [Option<Counter>], found: &[Counter])
     ensures long { length slots.new ≡ length slots.old }
-    ensures counted { AreCounted [] slots.old → AreCounted found.now slots.new }
+    ensures counted { AreCountersByEntity [] slots.old → AreCountersByEntity found.now slots.new }
 {
     for counter in found {
         note_loop(slots, *counter);

@@ -4,7 +4,7 @@ ghost use Rattle.std.specs.Prelude.{◌≡◌, None, length, map, replicate, IfO
 ghost use Rattle.dh_tree.specs.Seen.{action_seen, all_parts_seen, maybe_block_seen, program_seen};
 ghost use Rattle.dh_tree.specs.Resolved.{HasEntities};
 ghost use Rattle.dh_tree.specs.Memories.{locals, other_locals, groups_locals, memories_of, entry_of};
-ghost use Rattle.dh_tree.specs.Collected.{memory_found, all_found, outside_memories, FindsMemories, NumbersNext, AreNumbersOf, IsCollected};
+ghost use Rattle.dh_tree.specs.Collected.{memory_found, found_memories, outside_memories, FindsMemories, NumbersNext, AreNumbersOf, IsCollected};
 
 use crate::tables::{MemEntry, MemTable, Shape};
 use crate::trees::sorts::declare_few_memories;
@@ -96,7 +96,7 @@ fn find_in_parts<'a>(found: &mut Vec<Found<'a>>, parts: &'a [Vec<Command>]) -> R
 
 /// Finds the memories that these declarations bring from outside, in their order.
 fn find_decls<'a>(alloc: Global, decls: &'a [Decl]) -> Result<Vec<Found<'a>>, NoMemory>
-    ensures { IfOk result (λ found. all_found found.items ≡ outside_memories decls.now) }
+    ensures { IfOk result (λ found. found_memories found.items ≡ outside_memories decls.now) }
 {
     let mut found = Vec::new(alloc);
     for decl in decls {
@@ -123,7 +123,7 @@ fn entry(alloc: Global, found: &Found<'_>) -> Result<MemEntry, NoMemory>
 
 /// The table of memories.
 fn entries(alloc: Global, found: &[Found<'_>]) -> Result<MemTable, NoMemory>
-    ensures { IfOk result (λ t. t ≡ map entry_of (all_found found.now)) }
+    ensures { IfOk result (λ t. t ≡ map entry_of (found_memories found.now)) }
 {
     let mut table = Items::new(alloc);
     for memory in found {
@@ -163,7 +163,7 @@ fn numbers(
     found: &[Found<'_>],
     entities: usize,
 ) -> Result<Vec<Option<usize>>, NoMemory>
-    ensures { IfOk result (λ numbers. AreNumbersOf (all_found found.now) entities numbers.items) }
+    ensures { IfOk result (λ numbers. AreNumbersOf (found_memories found.now) entities numbers.items) }
 {
     let mut numbers = no_numbers(alloc, entities)?;
     for (number, memory) in found.iter().enumerate() {
@@ -177,7 +177,7 @@ fn numbers(
 fn memories_in<'a>(alloc: Global, tree: &'a Tree) -> Result<Vec<Found<'a>>, NoMemory>
     requires { HasEntities (program_seen tree.now) }
     ensures { IfOk result (λ found.
-        all_found found.items ≡ memories_of (program_seen tree.now)) }
+        found_memories found.items ≡ memories_of (program_seen tree.now)) }
 {
     let decls = tree.decls.as_slice();
     let entities = tree.entities.as_slice();

@@ -6,7 +6,7 @@ use Rattle.dh_plan.specs.declared.operations.Operation.{Operation}
 use Rattle.dh_plan.specs.declared.operations.PlanBlock.{PlanBlock}
 use Rattle.dh_plan.specs.Passes.{timing_seen}
 use Rattle.dh_plan.specs.SeenPlans.{plan_seen}
-use Rattle.dh_bind.specs.Units.{AreCounted, BlockUnits}
+use Rattle.dh_bind.specs.Units.{AreUnitNumbers, BlockUnits}
 use Rattle.dh_bind.proofs.Counted.{before_none, counted_none, counted_turn, rest_long, own_clocks, rest_next}
 use Rattle.dh_bind.proofs.Flat.{got}
 use Rattle.dh_bind.proofs.units.units_of.Goals as goal
@@ -14,7 +14,7 @@ use Rattle.dh_bind.proofs.units.units_of.Goals as goal
 pub loop-block-init : goal.loop-block-init
 loop-block-init c = record {
   rest = c.as_slice-rest.ensures ∙ ap (λ (k : ℕ). drop k c.args.schedule.now.clock_of) (before_none c.args.plan.now.blocks);
-  counted = subst (λ (l : List ℕ). AreCounted (plan_seen c.args.plan.now) (timing_seen c.args.schedule.now) 0 l) (sym c.new-units.ensures) (counted_none (plan_seen c.args.plan.now) (timing_seen c.args.schedule.now));
+  counted = subst (λ (l : List ℕ). AreUnitNumbers (plan_seen c.args.plan.now) (timing_seen c.args.schedule.now) 0 l) (sym c.new-units.ensures) (counted_none (plan_seen c.args.plan.now) (timing_seen c.args.schedule.now));
 }
 
 pub split_at-parts-requires : goal.split_at-parts-requires

@@ -3,7 +3,7 @@ use Rattle.std.specs.Prelude.{ℕ, List}
 use Rattle.std.specs.List.{AllByRecursion}
 use Rattle.std.proofs.lemmas.List.{length-drop}
 use Rattle.dh_code.specs.declared.codes.Operand.{Operand}
-use Rattle.dh_code.specs.Operated.{IsOperand, view_seen}
+use Rattle.dh_code.specs.Operated.{IsValidOperand, view_seen}
 use Rattle.dh_code.specs.Passing.{steps_of}
 use Rattle.dh_code.proofs.LinksPassed.{indices_few, indices_within, located_none, located_some, offsets_behind, passed_long, taken_long}
 use Rattle.dh_code.proofs.Ranges.{all_dropped, all_taken}
@@ -16,7 +16,7 @@ pub behind-offsets-requires : goal.behind-offsets-requires
 behind-offsets-requires c = indices_within c.args.dims.now (steps_of c.args.links.now) c.args.count (length c.args.operands.now) c.requires.fits
 
 pub numbers_of-named-requires-clause-operands : goal.numbers_of-named-requires-clause-operands
-numbers_of-named-requires-clause-operands c = subst (λ (l : List Operand). AllByRecursion IsOperand l) (sym c.front-indices.ensures) (all_taken IsOperand c.args.operands.now c.args.count c.requires.operands)
+numbers_of-named-requires-clause-operands c = subst (λ (l : List Operand). AllByRecursion IsValidOperand l) (sym c.front-indices.ensures) (all_taken IsValidOperand c.args.operands.now c.args.count c.requires.operands)
 
 pub numbers_of-named-requires-clause-few : goal.numbers_of-named-requires-clause-few
 numbers_of-named-requires-clause-few c =
@@ -35,7 +35,7 @@ pub pass-requires-clause-offsets : goal.pass-requires-clause-offsets
 pass-requires-clause-offsets c = offsets_behind c.args.dims.now (steps_of c.args.links.now) c.args.count (length c.args.operands.now) c.requires.fits _ (ap (λ (l : List Operand). length l) c.behind-offsets.ensures ∙ length-drop c.args.count c.args.operands.now)
 
 pub pass-requires-clause-operands : goal.pass-requires-clause-operands
-pass-requires-clause-operands c = subst (λ (l : List Operand). AllByRecursion IsOperand l) (sym c.behind-offsets.ensures) (all_dropped IsOperand c.args.operands.now c.args.count c.requires.operands)
+pass-requires-clause-operands c = subst (λ (l : List Operand). AllByRecursion IsValidOperand l) (sym c.behind-offsets.ensures) (all_dropped IsValidOperand c.args.operands.now c.args.count c.requires.operands)
 
 pub locate_index-requires-clause-long : goal.locate_index-requires-clause-long
 locate_index-requires-clause-long c =

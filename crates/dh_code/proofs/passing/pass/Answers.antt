@@ -3,7 +3,7 @@ use Rattle.std.specs.Prelude.{ℕ, option_map, List}
 use Rattle.std.specs.List.{AllByRecursion}
 use Rattle.dh_viewing.specs.Numbers.{numbers_in}
 use Rattle.dh_code.specs.declared.codes.Operand.{Operand}
-use Rattle.dh_code.specs.Operated.{IsOperand, view_seen}
+use Rattle.dh_code.specs.Operated.{IsValidOperand, view_seen}
 use Rattle.dh_code.proofs.LinksPassed.{enough, index_long, link_is, links_end, links_first, links_stop, links_turn, parent_few, taken_long}
 use Rattle.dh_code.proofs.Ranges.{all_taken}
 use Rattle.dh_code.proofs.passing.pass.Goals as goal
@@ -20,7 +20,7 @@ offset_of-offset-requires-clause-map c = link_is (view_seen c.args.view.now) c.a
 
 pub offset_of-offset-requires-clause-operands : goal.offset_of-offset-requires-clause-operands
 offset_of-offset-requires-clause-operands c =
-    subst (λ (l : List Operand). AllByRecursion IsOperand l) (sym c.front-own.ensures) (all_taken IsOperand c.loop-link.rest.now c.offsets_taken-count.result c.loop-link.invariant.operands)
+    subst (λ (l : List Operand). AllByRecursion IsValidOperand l) (sym c.front-own.ensures) (all_taken IsValidOperand c.loop-link.rest.now c.offsets_taken-count.result c.loop-link.invariant.operands)
 
 pub offset_of-offset-requires-clause-own : goal.offset_of-offset-requires-clause-own
 offset_of-offset-requires-clause-own c =

@@ -8,7 +8,7 @@ use Rattle.dh_code.specs.declared.codes.Action.TheVariants.{Choose, Keep}
 use Rattle.dh_code.specs.declared.codes.Kept.{Kept}
 use Rattle.dh_code.specs.Rows.{contents_of}
 use Rattle.dh_meaning.specs.Effects.{holds_at, paths_where}
-use Rattle.dh_code.specs.Scenes.{AreHeld, begun_in}
+use Rattle.dh_code.specs.Scenes.{AreHeldValues, begun_in}
 use Rattle.dh_code.specs.States.{AreRows, CanBeDone, DoesAll, DoesOne}
 use Rattle.dh_code.proofs.ListsRun.{action_depth, action_lower, can_be_done, choose_both, choose_one, choose_stop, choose_stop_first, choose_stop_one, found_step, lost_step, next_low, none_is, only_path, run_end, run_lost, run_more, run_nothing, run_stop, run_turn}
 use Rattle.dh_code.proofs.running.+run.Goals as goal
@@ -53,7 +53,7 @@ run-returns-clause-ran t c = run_end c.args.scene.now c.args.state.now (contents
 pub run_one-keep_all-requires-clause-held : goal.run_one-keep_all-requires-clause-held
 run_one-keep_all-requires-clause-held t c =
     let has = subst (λ (a : Action). CanBeDone c.args.scene.now a) c.in-Keep.is c.requires.done in
-    subst (λ (ks : List Kept). AreHeld c.args.scene.now.code.now.operations c.in-Keep.from c.in-Keep.to ks) (sym c.as_slice.ensures) has
+    subst (λ (ks : List Kept). AreHeldValues c.args.scene.now.code.now.operations c.in-Keep.from c.in-Keep.to ks) (sym c.as_slice.ensures) has
 
 pub run_one-returns-in-Keep-clause-ran : goal.run_one-returns-in-Keep-clause-ran
 run_one-returns-in-Keep-clause-ran t c =

@@ -2,14 +2,14 @@ use Rattle.std.proofs.Common.{◌^◌, ap, ◌∙◌, add-one}
 use Rattle.dh_value.specs.Words as words
 use Rattle.dh_value.specs.Words.{residue}
 use Rattle.dh_code.specs.declared.codes.Kept.{Kept}
-use Rattle.dh_code.specs.Operated.{IsOperand}
+use Rattle.dh_code.specs.Operated.{IsValidOperand}
 use Rattle.dh_code.specs.States.{sight_in}
 use Rattle.dh_code.proofs.Entries.{at_index}
 use Rattle.dh_code.proofs.KeptValues.{found_at, found_end}
 use Rattle.dh_code.proofs.running.find.Goals as goal
 
 pub value_in-requires : goal.value_in-requires
-value_in-requires c = at_index (λ (k : Kept). IsOperand k.value) c.args.values.now c.loop-kept.kept-index _ c.requires.operands c.loop-kept-test.true
+value_in-requires c = at_index (λ (k : Kept). IsValidOperand k.value) c.args.values.now c.loop-kept.kept-index _ c.requires.operands c.loop-kept-test.true
 
 pub loop-kept-preserved : goal.loop-kept-preserved
 loop-kept-preserved c = rw (add-one c.loop-kept.kept-index)

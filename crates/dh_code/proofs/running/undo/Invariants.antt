@@ -1,6 +1,6 @@
 use Rattle.std.proofs.Common.{◌≡◌, take}
-use Rattle.dh_code.specs.States.{undone}
+use Rattle.dh_code.specs.States.{undone_slots}
 use Rattle.dh_code.proofs.running.undo.Given as goal
 
 abbrev pub invariant-loop-i : goal.invariant-loop-i
-invariant-loop-i l = undone (take l.i l.changes) l.variables ≡ undone l.changes l.fn.variables
+invariant-loop-i l = undone_slots (take l.i l.changes) l.variables ≡ undone_slots l.changes l.fn.variables

@@ -11,12 +11,12 @@ use Rattle.dh_expressions.specs.Evaluated.{known_in}
 use Rattle.dh_commands.specs.declared.choices.Left.{Left}
 use Rattle.dh_commands.specs.Undone.{EndsArm}
 use Rattle.dh_commands.specs.Setting.{TestsAll}
-use Rattle.dh_commands.specs.Parted.{DoesGroups, JoinsAll, Leads}
+use Rattle.dh_commands.specs.Parted.{DoesGroups, JoinsAll, RestDoesWhole}
 use Rattle.dh_commands.proofs.ChoiceDone.{choice_done}
 use Rattle.dh_commands.proofs.CommandsDone.{assign_done, block_done, clear_done, let_done, reduce_done, store_done}
 use Rattle.dh_commands.proofs.PartsDone.{arm_done, as_seen, counted_done, idle_done, leads_all, leads_command, leads_part, viewed_done}
 use Rattle.dh_commands.specs.LanesRun.{paths_counted}
-use Rattle.dh_commands.specs.MadeCommands.{MadeArmGuards, MadeGroups, MakesFrom, MadeJoined, MadeTests}
+use Rattle.dh_commands.specs.MadeCommands.{MadeArmGuards, MadeGroups, RestMakesWhole, MadeJoined, MadeTests}
 use Rattle.dh_commands.proofs.CommandsMade.{at_part, idle_next, made_seen, makes_all, makes_command, makes_part, view_made}
 use Rattle.dh_commands.proofs.commands.+commands.Goals as goal
 
@@ -120,10 +120,10 @@ pub push_parts-loop-command-init : goal.push_parts-loop-command-init
 push_parts-loop-command-init t c = record {
   means =
       at_part c.args.parts.now c.loop-part.part-index c.part-item.result c.deref-command-items.result.now c.loop-part-test.true c.part-item.is c.deref-command-items.ensures.value
-      (λ gs. Leads c.args.scene.now c.args.around (all_parts_seen c.args.parts.now) gs c.args.first c.loop-part.next c.args.building.now c.loop-part.building) c.loop-part.invariant.means;
+      (λ gs. RestDoesWhole c.args.scene.now c.args.around (all_parts_seen c.args.parts.now) gs c.args.first c.loop-part.next c.args.building.now c.loop-part.building) c.loop-part.invariant.means;
   made =
       at_part c.args.parts.now c.loop-part.part-index c.part-item.result c.deref-command-items.result.now c.loop-part-test.true c.part-item.is c.deref-command-items.ensures.value
-      (λ gs. MakesFrom c.args.scene.now c.args.around (all_parts_seen c.args.parts.now) gs c.args.first c.loop-part.next c.args.building.now c.loop-part.building) c.loop-part.invariant.made;
+      (λ gs. RestMakesWhole c.args.scene.now c.args.around (all_parts_seen c.args.parts.now) gs c.args.first c.loop-part.next c.args.building.now c.loop-part.building) c.loop-part.invariant.made;
 }
 
 pub push_parts-loop-command-preserved : goal.push_parts-loop-command-preserved

@@ -61,7 +61,7 @@ note_form-returns-in_ok-set_own-in-For-clause-own t c =
     let h = c.as_ref-header.result.now in
     let is = ap action_form_seen c.in-For.is ∙ for_at c.in-For.header c.in-For.body c.in-For.combine h c.in-For.body.value c.as_ref-header.ensures refl in
     loop_stands h (action_seen c.in-For.body.value) (maybe_block_seen c.in-For.combine) (action_form_seen c.args.form.now) is _ _ _ _ c.turn_count-turns.ensures
-    (c.in_ok-turn-in-For.ensures.own ∙ ap (λ x. phase_kind (action_seen x)) c.deref-in-For.ensures) c.in_ok-joins-in-For.ensures.own c.loop_stages.ensures
+    (c.in_ok-turn-in-For.ensures.own ∙ ap (λ x. phase_kind (action_seen x)) c.deref-in-For.ensures) c.in_ok-joins-in-For.ensures.own c.kind_of_turns.ensures
 
 pub note_form-returns-in_ok-set_own-in-For-clause-rounds : goal.note_form-returns-in_ok-set_own-in-For-clause-rounds
 note_form-returns-in_ok-set_own-in-For-clause-rounds t c =

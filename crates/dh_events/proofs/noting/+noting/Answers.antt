@@ -3,7 +3,7 @@ use Rattle.std.proofs.lemmas.Result.{on_ok_weaker, IfOk-weaker}
 use Rattle.dh_tree.specs.Seen.{low_seen, high_seen, unroll_seen, action_form_seen, action_seen, maybe_block_seen, term_seen}
 use Rattle.dh_tree.proofs.SeenActions.{if_at, while_at, for_at}
 use Rattle.dh_events.specs.Incidents.{closed, incidents, open_after}
-use Rattle.dh_events.specs.Noted.{noted, stages_known}
+use Rattle.dh_events.specs.Noted.{noted_incidents, stages_known}
 use Rattle.dh_events.proofs.NotedFacts.{choice_noted, choice_opens, choice_stays, while_noted, while_opens, noted_between, loop_noted, loop_opens}
 use Rattle.dh_events.proofs.noting.+noting.Goals as goal
 
@@ -12,8 +12,8 @@ note_command-returns-in_ok-note_given-in-If-clause-adds t c =
     let is = ap action_form_seen c.in-If.is ∙ if_at c.in-If.test c.in-If.then c.in-If.other c.deref-in-If.result.now c.in-If.then.value c.deref-in-If.ensures refl in
     on_ok_weaker c.end_arms.result
     (λ end. choice_noted (stages_known c.args.around) c.args.around.round c.args.behind c.args.command.now.id (action_form_seen c.args.command.now.form) (term_seen c.deref-in-If.result.now) (action_seen c.in-If.then.value) (maybe_block_seen c.in-If.other) is c.in_ok-inside-in-If.inside c.in_ok-inside-in-If.ensures.inside
-    (noted c.args.notes.now) (noted c.begin_arms.new.notes) (noted c.note_inside.new.notes) (noted c.begin_other.new.notes) (noted c.note_given.new.notes) (noted c.end_arms.new.notes)
-    c.in_ok-inside-in-If.ensures.adds (c.in_ok-note_inside-in-If.ensures.adds ∙ ap (λ x. noted c.begin_arms.new.notes ++ incidents (stages_known c.args.around) c.args.around.round c.in_ok-inside-in-If.inside (action_seen x)) c.deref-in-If-2.ensures)
+    (noted_incidents c.args.notes.now) (noted_incidents c.begin_arms.new.notes) (noted_incidents c.note_inside.new.notes) (noted_incidents c.begin_other.new.notes) (noted_incidents c.note_given.new.notes) (noted_incidents c.end_arms.new.notes)
+    c.in_ok-inside-in-If.ensures.adds (c.in_ok-note_inside-in-If.ensures.adds ∙ ap (λ x. noted_incidents c.begin_arms.new.notes ++ incidents (stages_known c.args.around) c.args.around.round c.in_ok-inside-in-If.inside (action_seen x)) c.deref-in-If-2.ensures)
     c.in_ok-begin_other-in-If.ensures.adds c.in_ok-note_given-in-If.ensures.adds end)
     c.end_arms.ensures.adds
 
@@ -35,10 +35,10 @@ note_command-returns-in_ok-note_inside-in-While-clause-adds t c =
     let is = ap action_form_seen c.in-While.is ∙ while_at c.in-While.test c.in-While.body c.deref-in-While.result.now c.in-While.body.value c.deref-in-While.ensures refl in
     on_ok_weaker c.end_turns.result
     (λ end. while_noted (stages_known c.args.around) c.args.around.round c.args.behind c.args.command.now.id (action_form_seen c.args.command.now.form) (term_seen c.deref-in-While.result.now) (action_seen c.in-While.body.value) is
-    (noted c.args.notes.now) (noted c.begin_turns.new.notes) (noted c.note_inside-in-While.new.notes) (noted c.end_turns.new.notes)
+    (noted_incidents c.args.notes.now) (noted_incidents c.begin_turns.new.notes) (noted_incidents c.note_inside-in-While.new.notes) (noted_incidents c.end_turns.new.notes)
     c.in_ok-begin_turns-in-While.ensures.adds
-    (c.in_ok-note_inside-in-While.ensures.adds ∙ (ap (λ h. noted c.begin_turns.new.notes ++ incidents (stages_known c.args.around) c.args.around.round h (action_seen c.deref-in-While-2.result.now)) c.closed.ensures
-    ∙ ap (λ x. noted c.begin_turns.new.notes ++ incidents (stages_known c.args.around) c.args.around.round closed (action_seen x)) c.deref-in-While-2.ensures))
+    (c.in_ok-note_inside-in-While.ensures.adds ∙ (ap (λ h. noted_incidents c.begin_turns.new.notes ++ incidents (stages_known c.args.around) c.args.around.round h (action_seen c.deref-in-While-2.result.now)) c.closed.ensures
+    ∙ ap (λ x. noted_incidents c.begin_turns.new.notes ++ incidents (stages_known c.args.around) c.args.around.round closed (action_seen x)) c.deref-in-While-2.ensures))
     end)
     c.end_turns.ensures.adds
 
@@ -63,9 +63,9 @@ note_command-returns-in_ok-note_given-in-For-clause-adds t c =
     c.round_inside.result c.in_ok-turn-in-For.turn c.into_combine-joins.result c.round_inside.ensures
     (c.in_ok-turn-in-For.ensures.after ∙ (ap (λ h. open_after (stages_known c.args.around) h (action_seen c.deref-in-For.result.now)) c.closed-in-For.ensures ∙ ap (λ x. open_after (stages_known c.args.around) closed (action_seen x)) c.deref-in-For.ensures))
     c.into_combine-joins.ensures
-    (noted c.args.notes.now) (noted c.assign.new.self) (noted c.note_inside-in-For.new.notes) (noted c.note_given-in-For.new.notes) c.in_ok-assign-in-For.ensures.adds
-    (c.in_ok-turn-in-For.ensures.adds ∙ (ap (λ h. noted c.assign.new.self ++ incidents (stages_known c.args.around) c.round_inside.result h (action_seen c.deref-in-For.result.now)) c.closed-in-For.ensures
-    ∙ ap (λ x. noted c.assign.new.self ++ incidents (stages_known c.args.around) c.round_inside.result closed (action_seen x)) c.deref-in-For.ensures))
+    (noted_incidents c.args.notes.now) (noted_incidents c.assign.new.self) (noted_incidents c.note_inside-in-For.new.notes) (noted_incidents c.note_given-in-For.new.notes) c.in_ok-assign-in-For.ensures.adds
+    (c.in_ok-turn-in-For.ensures.adds ∙ (ap (λ h. noted_incidents c.assign.new.self ++ incidents (stages_known c.args.around) c.round_inside.result h (action_seen c.deref-in-For.result.now)) c.closed-in-For.ensures
+    ∙ ap (λ x. noted_incidents c.assign.new.self ++ incidents (stages_known c.args.around) c.round_inside.result closed (action_seen x)) c.deref-in-For.ensures))
     c.in_ok-note_given-in-For.ensures.adds
 
 pub note_command-returns-in_ok-note_given-in-For-clause-after : goal.note_command-returns-in_ok-note_given-in-For-clause-after

@@ -5,7 +5,7 @@ use Rattle.dh_meets.specs.SourceEvents.{with_indices, in_row}
 use Rattle.dh_tree.specs.Seen.{form_seen, term_seen, terms}
 use Rattle.dh_tree.proofs.SeenTerms.{number_is, truth_is, access_is, physical_is, binary_is, cast_is}
 use Rattle.dh_events.specs.Accesses.{element_in, entity_in}
-use Rattle.dh_events.specs.Elements.{AreKnown, IsAccess, IsKnown}
+use Rattle.dh_events.specs.Elements.{AreKnown, FormIsAccess, IsKnown}
 use Rattle.dh_events.specs.Tables.{table_at}
 use Rattle.dh_events.proofs.ElementFacts.{extends_same}
 use Rattle.dh_events.proofs.Turns.{at_item}
@@ -52,7 +52,7 @@ note_index-returns-in_ok-read-in-Access-clause-known t c =
     let is = ap element_in seen ∙ ap (λ l. with_indices (terms (map term_seen l))) (sym c.as_slice-in-Access.ensures.value) in
     let element = element_known c.note_indices.new.notes.structures (table_at c.args.notes.now.clocks.items) (terms (map term_seen c.as_slice-in-Access.result.now)) c.in_ok-element-in-Access.element c.in_ok-element-in-Access.ensures.known in
     IfOk-weaker c.reading.result _ _
-    (λ k m. m.known (table_at c.args.notes.now.clocks.items) c.args.expr.now.place c.args.expr.now.kind (form_seen c.args.expr.now.form) c.sort_found-sort.ensures (ap entity_in seen) (subst (λ (f : TermForm). IsAccess f) (sym seen) tt)
+    (λ k m. m.known (table_at c.args.notes.now.clocks.items) c.args.expr.now.place c.args.expr.now.kind (form_seen c.args.expr.now.form) c.sort_found-sort.ensures (ap entity_in seen) (subst (λ (f : TermForm). FormIsAccess f) (sym seen) tt)
     (read_element c.args.notes.now c.note_indices.new.notes c.read.new.self (form_seen c.args.expr.now.form) _ _ _ c.in_ok-element-in-Access.ensures.noted is element c.in_ok-read-in-Access.ensures.noted))
     c.reading.ensures
 
@@ -75,7 +75,7 @@ note_index-returns-in_ok-read-in-Physical-clause-known t c =
     let first = stays_made c.args.notes.now c.note_index.new.notes c.row.new.structures c.in_ok-row-in-Physical.ensures.noted c.in_ok-element-in-Physical.ensures.extends in
     let element = c.in_ok-element-in-Physical.ensures.known (table_at c.args.notes.now.clocks.items) (term_seen c.deref.result.now) c.in_ok-row-in-Physical.ensures.known in
     IfOk-weaker c.reading-in-Physical.result _ _
-    (λ k m. m.known (table_at c.args.notes.now.clocks.items) c.args.expr.now.place c.args.expr.now.kind (form_seen c.args.expr.now.form) c.sort_found-sort.ensures (ap entity_in seen) (subst (λ (f : TermForm). IsAccess f) (sym seen) tt)
+    (λ k m. m.known (table_at c.args.notes.now.clocks.items) c.args.expr.now.place c.args.expr.now.kind (form_seen c.args.expr.now.form) c.sort_found-sort.ensures (ap entity_in seen) (subst (λ (f : TermForm). FormIsAccess f) (sym seen) tt)
     (read_element c.args.notes.now (notes_of c.note_index.new.notes c.row.new.structures) c.read-in-Physical.new.self (form_seen c.args.expr.now.form) _ _ _ first is element c.in_ok-read-in-Physical.ensures.noted))
     c.reading-in-Physical.ensures
 

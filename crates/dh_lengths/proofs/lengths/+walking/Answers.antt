@@ -10,8 +10,8 @@ use Rattle.dh_tree.specs.ViewOffsets.{moves}
 use Rattle.dh_meaning.specs.AccessNumbers.{accesses_of, other_accesses}
 use Rattle.dh_meaning.specs.Phases.{other_phases, phases}
 use Rattle.dh_events.specs.Tables.{table_at}
-use Rattle.dh_lengths.specs.HeldLevels.{count}
-use Rattle.dh_lengths.specs.PhaseWalks.{IsWalked, TellOther, TellsStages}
+use Rattle.dh_lengths.specs.HeldLevels.{held_access_count}
+use Rattle.dh_lengths.specs.PhaseWalks.{PhasesAreWalked, TellOther, TellsStages}
 use Rattle.dh_lengths.proofs.PhaseWalking.{by_form, groups_begin, groups_turn, never_more, view_few, part_begin, part_turn, put_released, walked_block, walked_choice, walked_none, walked_nothing, walked_repeat, walked_turns, where_none, where_one}
 use Rattle.dh_lengths.proofs.Zeros.{drop_past}
 use Rattle.dh_lengths.proofs.lengths.+walking.Goals as goal
@@ -93,11 +93,11 @@ walk_command-returns-in-Call t c = by_form c.args.ways.now c.args.stages.now c.a
 
 pub walk_other-returns-in-Some : goal.walk_other-returns-in-Some
 walk_other-returns-in-Some t c = on_ok_weaker c.walk_command.result (λ g known u r base line tells s.
-    subst (λ (o : Option (Box Command Global)). TellOther (table_at c.args.stages.now) (maybe_seen (option_map (λ b. action_seen b.value) o)) → IsWalked known base line c.args.walk.now c.walk_command.new.walk (other_phases r (count c.args.walk.now.held) (maybe_seen (option_map (λ b. action_seen b.value) o))) (other_accesses (maybe_seen (option_map (λ b. action_seen b.value) o)))) (sym c.in-Some.is)
-    (λ tell. subst (λ (x : Command). IsWalked known base line c.args.walk.now c.walk_command.new.walk (phases r (count c.args.walk.now.held) (action_seen x)) (accesses_of (action_seen x))) c.deref.ensures
+    subst (λ (o : Option (Box Command Global)). TellOther (table_at c.args.stages.now) (maybe_seen (option_map (λ b. action_seen b.value) o)) → PhasesAreWalked known base line c.args.walk.now c.walk_command.new.walk (other_phases r (held_access_count c.args.walk.now.held) (maybe_seen (option_map (λ b. action_seen b.value) o))) (other_accesses (maybe_seen (option_map (λ b. action_seen b.value) o)))) (sym c.in-Some.is)
+    (λ tell. subst (λ (x : Command). PhasesAreWalked known base line c.args.walk.now c.walk_command.new.walk (phases r (held_access_count c.args.walk.now.held) (action_seen x)) (accesses_of (action_seen x))) c.deref.ensures
     (g known u r base line (subst (λ (x : Command). TellsStages (table_at c.args.stages.now) (action_seen x)) (sym c.deref.ensures) tell) s)) tells) c.walk_command.ensures
 
 pub walk_other-returns-in-None : goal.walk_other-returns-in-None
 walk_other-returns-in-None t c = λ known u r base line tells s.
-    subst (λ (o : Option (Box Command Global)). IsWalked known base line c.args.walk.now c.args.walk.now (other_phases r (count c.args.walk.now.held) (maybe_seen (option_map (λ b. action_seen b.value) o))) (other_accesses (maybe_seen (option_map (λ b. action_seen b.value) o)))) (sym c.in-None.is)
+    subst (λ (o : Option (Box Command Global)). PhasesAreWalked known base line c.args.walk.now c.args.walk.now (other_phases r (held_access_count c.args.walk.now.held) (maybe_seen (option_map (λ b. action_seen b.value) o))) (other_accesses (maybe_seen (option_map (λ b. action_seen b.value) o)))) (sym c.in-None.is)
     (walked_nothing known base line c.args.walk.now s)

@@ -1,7 +1,7 @@
 use Rattle.std.proofs.Common.{◌≡◌, ◌++◌, drop, replicate}
 use Rattle.std.specs.List.{AllByRecursion}
 use Rattle.dh_tree.specs.Shapes.{IsMemory}
-use Rattle.dh_ports.specs.Claims.{ports_in}
+use Rattle.dh_ports.specs.Claims.{bank_ports_in}
 use Rattle.dh_ports.proofs.banks.bank_ports.Given as goal
 
 abbrev pub invariant-loop : goal.invariant-loop
@@ -9,5 +9,5 @@ invariant-loop l = l.ports.items ≡ l.initial.ports.items ++ replicate l.counte
 
 abbrev pub invariant-loop-entry : goal.invariant-loop-entry
 invariant-loop-entry l =
-    (l.ports.items ++ ports_in (drop l.entry-index l.table) ≡ ports_in l.table)
+    (l.ports.items ++ bank_ports_in (drop l.entry-index l.table) ≡ bank_ports_in l.table)
     × AllByRecursion IsMemory (drop l.entry-index l.table)

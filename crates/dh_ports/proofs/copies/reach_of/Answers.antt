@@ -3,14 +3,14 @@ use Rattle.dh_tree.specs.declared.trees.expressions.Expr.{Expr}
 use Rattle.dh_tree.specs.Seen.{form_seen, term_seen}
 use Rattle.dh_tree.proofs.SeenTerms.{number_is, truth_is, variable_is, access_is, physical_is, binary_is, cast_is}
 use Rattle.dh_events.specs.Accesses.{element_in}
-use Rattle.dh_ports.specs.Copies.{AreLanes}
+use Rattle.dh_ports.specs.Copies.{AreIndexLanes}
 use Rattle.dh_ports.proofs.ReachFacts.{reach_lanes, reach_row, reach_none}
 use Rattle.dh_ports.proofs.copies.reach_of.Goals as goal
 
 pub returns-in_ok-lanes-in-Access : goal.returns-in_ok-lanes-in-Access
 returns-in_ok-lanes-in-Access c =
     reach_lanes c.args.typed.now c.args.copied.loops.now c.args.copied.dims.now c.args.copied.access.now c.in_ok-lanes-in-Access.lanes.items c.in-Access.of c.in-Access.indices.items (ap form_seen c.in-Access.is ∙ access_is c.in-Access.of c.in-Access.indices)
-    (subst (λ (es : List Expr). AreLanes c.args.typed.now c.args.copied.loops.now c.args.copied.dims.now es c.in_ok-lanes-in-Access.lanes.items) c.as_slice.ensures.value c.in_ok-lanes-in-Access.ensures)
+    (subst (λ (es : List Expr). AreIndexLanes c.args.typed.now c.args.copied.loops.now c.args.copied.dims.now es c.in_ok-lanes-in-Access.lanes.items) c.as_slice.ensures.value c.in_ok-lanes-in-Access.ensures)
 
 pub returns-in-Physical : goal.returns-in-Physical
 returns-in-Physical c =

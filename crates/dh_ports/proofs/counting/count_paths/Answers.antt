@@ -6,7 +6,7 @@ use Rattle.dh_events.specs.Tables.{table_at}
 use Rattle.dh_ports.specs.declared.copies.Lane.{Lane}
 use Rattle.dh_ports.specs.declared.copies.Level.{Level}
 use Rattle.dh_ports.specs.declared.counting.Seen.{Seen}
-use Rattle.dh_ports.specs.Copies.{bank_by, bank_of_lanes, key_by, key_of_levels, HasFewBanks, HasFewKeys, IsSpread, TellsPaths}
+use Rattle.dh_ports.specs.Copies.{bank_at_path_number, bank_of_lanes, key_by, key_of_levels, HasFewBanks, HasFewKeys, IsSpreadLevel, TellsPaths}
 use Rattle.dh_ports.proofs.RangeCounts.{alone_of, range_beyond, range_done, range_few, range_none, range_past, range_turn, RangeCounted}
 use Rattle.dh_ports.proofs.ReachFacts.{pair_few}
 use Rattle.dh_ports.proofs.counting.count_paths.Goals.{then-bank-banks+in_ok-count_pair, else-bank-banks}
@@ -24,7 +24,7 @@ pub bank_at-told-requires-clause-spread : goal.bank_at-told-requires-clause-spre
 bank_at-told-requires-clause-spread c =
     let some : 1 ≤ c.args.many = omega (arith, c.loop-step-test.true) in
     let tells : TellsPaths c.args.reach.now = c.requires.tells some in
-    subst (λ (ls : List Level). AllByRecursion IsSpread ls) (sym c.as_slice-levels.ensures.value) tells.spread
+    subst (λ (ls : List Level). AllByRecursion IsSpreadLevel ls) (sym c.as_slice-levels.ensures.value) tells.spread
 
 pub bank_at-told-requires-clause-few : goal.bank_at-told-requires-clause-few
 bank_at-told-requires-clause-few c =
@@ -46,7 +46,7 @@ pub key_at-key-requires-clause-spread : goal.key_at-key-requires-clause-spread
 key_at-key-requires-clause-spread c =
     let some : 1 ≤ c.args.many = omega (arith, c.loop-step-test.true) in
     let tells : TellsPaths c.args.reach.now = c.requires.tells some in
-    subst (λ (ls : List Level). AllByRecursion IsSpread ls) (sym c.as_slice-levels.ensures.value) tells.spread
+    subst (λ (ls : List Level). AllByRecursion IsSpreadLevel ls) (sym c.as_slice-levels.ensures.value) tells.spread
 
 pub key_at-key-requires-clause-few : goal.key_at-key-requires-clause-few
 key_at-key-requires-clause-few c =
@@ -82,7 +82,7 @@ loop-step-preserved c =
     let tells : TellsPaths c.args.reach.now = c.requires.tells some in
     let number = c.args.from + c.loop-step.step in
     let keyed : c.key_at-key.result ≡ key_by c.args.reach.now number = c.key_at-key.ensures ∙ ap (λ ls. key_of_levels ls number) c.as_slice-levels.ensures.value in
-    let is : c.bank_of-bank.result ≡ bank_by c.args.reach.now number =
+    let is : c.bank_of-bank.result ≡ bank_at_path_number c.args.reach.now number =
     c.bank_of-bank.ensures
     ∙ ap (λ n. c.args.reach.now.own + n)
     (c.bank_at-told.ensures ∙ (ap (λ ls. bank_of_lanes ls c.as_slice-lanes.result.now number) c.as_slice-levels.ensures.value ∙ ap (λ ls. bank_of_lanes c.args.reach.now.paths.levels.items ls number) c.as_slice-lanes.ensures.value)) in

@@ -1,5 +1,5 @@
 use Rattle.std.proofs.Common.{ℕ, List, ◌≤◌, sym, subst, arith}
-use Rattle.dh_ports.specs.Copies.{AreCounts}
+use Rattle.dh_ports.specs.Copies.{AreKeyCounts}
 use Rattle.dh_ports.proofs.SumTurns.{counts_again}
 use Rattle.dh_ports.proofs.counting.keep_counts.Goals as goal
 
@@ -12,4 +12,4 @@ count_paths-requires-clause-range c =
     omega (arith, few)
 
 pub returns-clause-counts : goal.returns-clause-counts
-returns-clause-counts c = subst (λ (l : List ℕ). AreCounts c.args.reach 0 c.args.reach.paths.count c.args.banks l) (sym c.keep_direct.ensures.counts) c.in_ok-count_paths.ensures.counts
+returns-clause-counts c = subst (λ (l : List ℕ). AreKeyCounts c.args.reach 0 c.args.reach.paths.count c.args.banks l) (sym c.keep_direct.ensures.counts) c.in_ok-count_paths.ensures.counts

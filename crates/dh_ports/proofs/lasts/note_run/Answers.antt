@@ -1,7 +1,7 @@
 use Rattle.std.proofs.Common.{ℕ, ◌-◌, length, sym, subst}
 use Rattle.std.specs.List.{AllByRecursion}
 use Rattle.dh_ports.specs.declared.moves.Move.{Move}
-use Rattle.dh_ports.specs.Runs.{moves_of_run, row_of}
+use Rattle.dh_ports.specs.Runs.{moves_of_run, moves_in_row}
 use Rattle.dh_ports.specs.Scanned.{IsMoveOf}
 use Rattle.dh_ports.proofs.AheadNotes.{NotesRest, ahead_first, ahead_row_done, ahead_turn}
 use Rattle.dh_ports.proofs.RunTurns.{row_head, row_rest}
@@ -9,8 +9,8 @@ use Rattle.dh_ports.proofs.lasts.note_run.Goals as goal
 
 pub loop-slot-init : goal.loop-slot-init
 loop-slot-init c = (
-  subst (λ (n : ℕ). NotesRest c.args.events.now c.args.lasts.now (row_of c.args.run.first n (c.args.run.end - n)) c.args.lasts.now (moves_of_run c.args.run)) (sym c.slot_of-from.ensures) (ahead_first c.args.events.now c.args.lasts.now (moves_of_run c.args.run)),
-  subst (λ (n : ℕ). AllByRecursion (IsMoveOf (length c.args.events.now)) (row_of c.args.run.first n (c.args.run.end - n))) (sym c.slot_of-from.ensures) c.requires.within,
+  subst (λ (n : ℕ). NotesRest c.args.events.now c.args.lasts.now (moves_in_row c.args.run.first n (c.args.run.end - n)) c.args.lasts.now (moves_of_run c.args.run)) (sym c.slot_of-from.ensures) (ahead_first c.args.events.now c.args.lasts.now (moves_of_run c.args.run)),
+  subst (λ (n : ℕ). AllByRecursion (IsMoveOf (length c.args.events.now)) (moves_in_row c.args.run.first n (c.args.run.end - n))) (sym c.slot_of-from.ensures) c.requires.within,
 )
 
 pub note_move-requires : goal.note_move-requires

@@ -1,6 +1,6 @@
 use Rattle.std.proofs.Common.{◌≡◌, ◌<◌, ℕ, List, length, ap, sym, subst, ◌∙◌, arith}
 use Rattle.dh_ports.specs.declared.carrying.Carrier.{Carrier}
-use Rattle.dh_ports.specs.CarriersMade.{AreMade}
+use Rattle.dh_ports.specs.CarriersMade.{AreMadeCarriers}
 use Rattle.dh_ports.proofs.CarrierMade.{each_done, made_more, made_none}
 use Rattle.dh_ports.proofs.leading.carriers_of.Goals as goal
 
@@ -14,7 +14,7 @@ carrier_at-requires c =
       there = subst (λ (n : ℕ). c.loop-place.place < n) c.len-place-end.ensures c.loop-place-test.true;
       follow = c.requires;
       many = omega (arith, long);
-      made = subst (λ (cs : List Carrier). AreMade c.args.ways.now cs) (sym c.as_slice.ensures.value) c.loop-place.invariant.1;
+      made = subst (λ (cs : List Carrier). AreMadeCarriers c.args.ways.now cs) (sym c.as_slice.ensures.value) c.loop-place.invariant.1;
     }
 
 pub loop-place-preserved : goal.loop-place-preserved

@@ -1,7 +1,7 @@
 -- The first views have their carriers.
 use Rattle.std.proofs.Common.{◌≡◌, length}
-use Rattle.dh_ports.specs.CarriersMade.{AreMade}
+use Rattle.dh_ports.specs.CarriersMade.{AreMadeCarriers}
 use Rattle.dh_ports.proofs.leading.carriers_of.Given as goal
 
 abbrev pub invariant-loop-place : goal.invariant-loop-place
-invariant-loop-place l = (length l.each.items ≡ l.place) × AreMade l.ways l.each.items
+invariant-loop-place l = (length l.each.items ≡ l.place) × AreMadeCarriers l.ways l.each.items

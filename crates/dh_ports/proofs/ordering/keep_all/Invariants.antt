@@ -2,7 +2,7 @@
 use Rattle.std.proofs.Common.{◌≡◌, drop, length}
 use Rattle.std.specs.List.{AllByRecursion}
 use Rattle.dh_tree.specs.LeastBreach.{least_of}
-use Rattle.dh_ports.specs.Levels.{IsKept}
+use Rattle.dh_ports.specs.Levels.{LevelsKept}
 use Rattle.dh_ports.specs.Passing.{all_from, late_from}
 use Rattle.dh_ports.specs.Runs.{moves_in}
 use Rattle.dh_ports.specs.Scanned.{IsMoveOf}
@@ -10,6 +10,6 @@ use Rattle.dh_ports.proofs.ordering.keep_all.Given as goal
 
 abbrev pub invariant-loop-run : goal.invariant-loop-run
 invariant-loop-run l =
-    IsKept l.levels
+    LevelsKept l.levels
     × ((least_of l.kept (late_from l.classes l.events l.levels (moves_in (drop l.run-index l.moves))) ≡ least_of l.fn.kept (all_from l.classes l.events l.fn.starts.items (moves_in l.moves)))
     × AllByRecursion (IsMoveOf (length l.events)) (moves_in (drop l.run-index l.moves)))

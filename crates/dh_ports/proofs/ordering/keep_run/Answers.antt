@@ -3,7 +3,7 @@ use Rattle.std.specs.List.{AllByRecursion}
 use Rattle.dh_tree.specs.LeastBreach.{least_of}
 use Rattle.dh_ports.specs.declared.moves.Move.{Move}
 use Rattle.dh_ports.specs.Passing.{late_from}
-use Rattle.dh_ports.specs.Runs.{moves_of_run, row_of}
+use Rattle.dh_ports.specs.Runs.{moves_of_run, moves_in_row}
 use Rattle.dh_ports.specs.Scanned.{IsMoveOf}
 use Rattle.dh_ports.proofs.QuietPhases.{quiet_keeps}
 use Rattle.dh_ports.proofs.RunTurns.{late_row_done, late_turn, other_turn, row_head, row_rest}
@@ -18,8 +18,8 @@ pub loop-slot-init : goal.loop-slot-init
 loop-slot-init c = (
   c.requires.kept,
   (
-    λ rest. ap (λ n. least_of c.args.kept.now (late_from c.args.classes.now c.args.events.now c.args.levels.now (row_of c.args.run.first n (c.args.run.end - n) ++ rest))) c.slot_of-from.ensures,
-    subst (λ (n : ℕ). AllByRecursion (IsMoveOf (length c.args.events.now)) (row_of c.args.run.first n (c.args.run.end - n))) (sym c.slot_of-from.ensures) c.requires.within,
+    λ rest. ap (λ n. least_of c.args.kept.now (late_from c.args.classes.now c.args.events.now c.args.levels.now (moves_in_row c.args.run.first n (c.args.run.end - n) ++ rest))) c.slot_of-from.ensures,
+    subst (λ (n : ℕ). AllByRecursion (IsMoveOf (length c.args.events.now)) (moves_in_row c.args.run.first n (c.args.run.end - n))) (sym c.slot_of-from.ensures) c.requires.within,
   ),
 )
 

@@ -3,14 +3,14 @@ use Rattle.std.proofs.Common.{◌≡◌, ◌-◌, List, ◌++◌, length}
 use Rattle.std.specs.List.{AllByRecursion}
 use Rattle.dh_tree.specs.LeastBreach.{least_of}
 use Rattle.dh_ports.specs.declared.moves.Move.{Move}
-use Rattle.dh_ports.specs.Levels.{IsKept}
+use Rattle.dh_ports.specs.Levels.{LevelsKept}
 use Rattle.dh_ports.specs.Passing.{late_from}
-use Rattle.dh_ports.specs.Runs.{moves_of_run, row_of}
+use Rattle.dh_ports.specs.Runs.{moves_of_run, moves_in_row}
 use Rattle.dh_ports.specs.Scanned.{IsMoveOf}
 use Rattle.dh_ports.proofs.ordering.keep_run.Given as goal
 
 abbrev pub invariant-loop-slot : goal.invariant-loop-slot
 invariant-loop-slot l =
-    IsKept l.levels
-    × (((rest : List Move) → least_of l.kept (late_from l.classes l.events l.levels (row_of l.run.first l.slot (l.run.end - l.slot) ++ rest)) ≡ least_of l.fn.kept (late_from l.classes l.events l.fn.levels (moves_of_run l.run ++ rest)))
-    × AllByRecursion (IsMoveOf (length l.events)) (row_of l.run.first l.slot (l.run.end - l.slot)))
+    LevelsKept l.levels
+    × (((rest : List Move) → least_of l.kept (late_from l.classes l.events l.levels (moves_in_row l.run.first l.slot (l.run.end - l.slot) ++ rest)) ≡ least_of l.fn.kept (late_from l.classes l.events l.fn.levels (moves_of_run l.run ++ rest)))
+    × AllByRecursion (IsMoveOf (length l.events)) (moves_in_row l.run.first l.slot (l.run.end - l.slot)))

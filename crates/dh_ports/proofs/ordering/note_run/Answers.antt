@@ -1,7 +1,7 @@
 use Rattle.std.proofs.Common.{ℕ, ◌-◌, length, sym, subst}
 use Rattle.std.specs.List.{AllByRecursion}
 use Rattle.dh_ports.specs.declared.moves.Move.{Move}
-use Rattle.dh_ports.specs.Runs.{moves_of_run, row_of}
+use Rattle.dh_ports.specs.Runs.{moves_of_run, moves_in_row}
 use Rattle.dh_ports.specs.Scanned.{IsMoveOf}
 use Rattle.dh_ports.proofs.RunTurns.{NotesAll, extends_both, extends_none, note_row_done, note_turn, notes_first, row_head, row_rest}
 use Rattle.dh_ports.proofs.UnreadPhases.{needed, unread_run}
@@ -18,8 +18,8 @@ pub loop-slot-init : goal.loop-slot-init
 loop-slot-init c = (
   extends_none c.args.classes.now,
   (
-    subst (λ (n : ℕ). NotesAll c.args.classes.now c.args.events.now (row_of c.args.run.first n (c.args.run.end - n)) (moves_of_run c.args.run)) (sym c.slot_of-from.ensures) (notes_first c.args.classes.now c.args.events.now (moves_of_run c.args.run)),
-    (subst (λ (n : ℕ). AllByRecursion (IsMoveOf (length c.args.events.now)) (row_of c.args.run.first n (c.args.run.end - n))) (sym c.slot_of-from.ensures) c.requires.within, λ marked. marked),
+    subst (λ (n : ℕ). NotesAll c.args.classes.now c.args.events.now (moves_in_row c.args.run.first n (c.args.run.end - n)) (moves_of_run c.args.run)) (sym c.slot_of-from.ensures) (notes_first c.args.classes.now c.args.events.now (moves_of_run c.args.run)),
+    (subst (λ (n : ℕ). AllByRecursion (IsMoveOf (length c.args.events.now)) (moves_in_row c.args.run.first n (c.args.run.end - n))) (sym c.slot_of-from.ensures) c.requires.within, λ marked. marked),
   ),
 )
 

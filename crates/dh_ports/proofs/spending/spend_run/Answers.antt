@@ -3,7 +3,7 @@ use Rattle.std.specs.List.{AllByRecursion}
 use Rattle.dh_events.specs.Noted.{all_seen}
 use Rattle.dh_ports.specs.declared.moves.Move.{Move}
 use Rattle.dh_ports.specs.Passing.{beyond_from}
-use Rattle.dh_ports.specs.Runs.{moves_of_run, row_of}
+use Rattle.dh_ports.specs.Runs.{moves_of_run, moves_in_row}
 use Rattle.dh_ports.specs.Scanned.{IsMoveOf}
 use Rattle.dh_ports.proofs.RunTurns.{row_head, row_rest, spent_here, spent_row_done, spent_turn}
 use Rattle.dh_ports.proofs.WalkTurns.{move_within, step_more}
@@ -13,8 +13,8 @@ pub loop-slot-init : goal.loop-slot-init
 loop-slot-init c = (
   c.requires.kept,
   (
-    λ more rest. ap (λ n. beyond_from (all_seen c.args.events.now) (c.args.shared.now ++ more) c.args.levels.now (row_of c.args.run.first n (c.args.run.end - n) ++ rest)) c.slot_of-from.ensures,
-    subst (λ (n : ℕ). AllByRecursion (IsMoveOf (length c.args.shared.now)) (row_of c.args.run.first n (c.args.run.end - n))) (sym c.slot_of-from.ensures) c.requires.within,
+    λ more rest. ap (λ n. beyond_from (all_seen c.args.events.now) (c.args.shared.now ++ more) c.args.levels.now (moves_in_row c.args.run.first n (c.args.run.end - n) ++ rest)) c.slot_of-from.ensures,
+    subst (λ (n : ℕ). AllByRecursion (IsMoveOf (length c.args.shared.now)) (moves_in_row c.args.run.first n (c.args.run.end - n))) (sym c.slot_of-from.ensures) c.requires.within,
   ),
 )
 

@@ -5,7 +5,7 @@ use Rattle.dh_events.specs.Accesses.{loops_listed}
 use Rattle.dh_events.specs.Noted.{all_seen}
 use Rattle.dh_ports.specs.declared.moves.Run.{Run}
 use Rattle.dh_ports.specs.Ahead.{NotesMoves}
-use Rattle.dh_ports.specs.Claims.{ports_in}
+use Rattle.dh_ports.specs.Claims.{bank_ports_in}
 use Rattle.dh_ports.specs.EventMoves.{moves_of}
 use Rattle.dh_ports.specs.Runs.{moves_in}
 use Rattle.dh_ports.specs.Scanned.{IsMoveOf}
@@ -17,7 +17,7 @@ use Rattle.dh_ports.proofs.walking.walk.Goals as goal
 pub loop-event-init : goal.loop-event-init
 loop-event-init c = (
   walk_begins (program_seen c.args.typed.now) c.args.layout.now c.args.events.now c.args.sharing.now c.args.lasts.now c.new-levels.result c.in_ok-ports.ports.items c.requires.begins c.new-levels.ensures.kept c.new-levels.ensures.starts
-      (c.in_ok-ports.ensures ∙ ap ports_in (c.as_slice.ensures ∙ c.memories.ensures)),
+      (c.in_ok-ports.ensures ∙ ap bank_ports_in (c.as_slice.ensures ∙ c.memories.ensures)),
   c.new-tally.ensures,
 )
 

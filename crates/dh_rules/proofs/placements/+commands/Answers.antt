@@ -33,8 +33,8 @@ keep_groups-loop-command-preserved t c = record {
       c.loop-command-test.true c.command-item.is c.keep_command-steps.ensures.places c.keep_joined.ensures
       ∙ c.loop-command.invariant.places;
   steps =
-      next_steps c.loop-command.most c.keep_command-steps.result c.beside-most.result c.deref-command-items.result.now c.loop-command.command-index c.command-item.result
-      c.loop-command-test.true c.command-item.is c.keep_command-steps.ensures.steps c.beside-most.ensures
+      next_steps c.loop-command.most c.keep_command-steps.result c.max-most.result c.deref-command-items.result.now c.loop-command.command-index c.command-item.result
+      c.loop-command-test.true c.command-item.is c.keep_command-steps.ensures.steps c.max-most.ensures
       ∙ c.loop-command.invariant.steps;
 }
 
@@ -72,7 +72,8 @@ keep_command-returns-in-For-clause-places t c =
 pub keep_command-returns-in-For-clause-steps : goal.keep_command-returns-in-For-clause-steps
 keep_command-returns-in-For-clause-steps t c =
     let h = c.as_ref-header.result.now in
-    c.of_loop.ensures
+    c.kind_of_turns.ensures
+    ∙ (ap (λ n. turns_kind n c.keep_command-turn.result c.keep_other-folds.result) c.turn_count-turns.ensures
     ∙ (ap (λ n. turns_kind ((h.high - h.low) / h.factor) n c.keep_other-folds.result) (c.keep_command-turn.ensures.steps ∙ ap (λ (b : Command). phase_kind (action_seen b)) c.deref-in-For.ensures)
     ∙ (ap (λ n. turns_kind ((h.high - h.low) / h.factor) (phase_kind (action_seen c.in-For.body.value)) n) c.keep_other-folds.ensures.steps
-    ∙ ap form_phase_kind (sym (ap action_form_seen c.in-For.is ∙ for_at c.in-For.header c.in-For.body c.in-For.combine h c.in-For.body.value c.as_ref-header.ensures refl))))
+    ∙ ap form_phase_kind (sym (ap action_form_seen c.in-For.is ∙ for_at c.in-For.header c.in-For.body c.in-For.combine h c.in-For.body.value c.as_ref-header.ensures refl)))))

@@ -2,7 +2,7 @@ use Rattle.std.proofs.Common.{ℕ, ◌+◌, ◌*◌, ◌≤◌, length, arith}
 use Rattle.std.proofs.lemmas.Result.{IfOk-weaker}
 use Rattle.dh_plan.specs.LegalSchedules.{depth_at, is_product}
 use Rattle.dh_sched.specs.FullClocks.{Fills}
-use Rattle.dh_sched.specs.LeastBlocks.{IsLeast, AreCounts}
+use Rattle.dh_sched.specs.LeastBlocks.{IsLeastClock, AreCounts}
 use Rattle.std.specs.Prelude.{[], ◌∷◌, ◌++◌}
 use Rattle.dh_sched.proofs.LeastStands.{needed_below, starts_early, least_found}
 use Rattle.dh_sched.proofs.BlockGrows.{counts_turn}
@@ -27,7 +27,7 @@ returns-clause-least c =
     IfOk-weaker c.place_from.result
     (λ (clock : ℕ). Fills c.args.limits.multipliers (is_product c.args.operation.now.form) c.unchained-start.result clock c.args.counts.now.items c.place_from.new.counts.items
     c.place_from.new.ways.items)
-    (λ (clock : ℕ). IsLeast c.args.limits c.args.first c.args.before.now c.args.clocks.now c.args.operation.now clock)
+    (λ (clock : ℕ). IsLeastClock c.args.limits c.args.first c.args.before.now c.args.clocks.now c.args.operation.now clock)
     (λ clock fills. least_found c.args.limits c.args.first c.args.before.now c.args.clocks.now c.args.depths.now c.args.taken.now c.args.operation.now c.needed_clock-needed.result
     c.unchained-start.result clock c.args.counts.now.items c.args.ways.now.items c.place_from.new.counts.items c.place_from.new.ways.items c.needed_clock-needed.ensures
     c.requires.taken c.requires.scheduled c.requires.depths c.requires.counts c.unchained-start.ensures fills)

@@ -19,7 +19,7 @@ use Rattle.dh_lengths.proofs.SharedTold.{shared_told}
 use Rattle.dh_ports.proofs.LayoutFacts.{follow_all}
 use Rattle.dh_ports.proofs.SpentTold.{leads_at, ways_follow}
 use Rattle.dh_size.specs.Sizes.{sizes_from}
-use Rattle.dh_size.specs.Summed.{summed, unit_size}
+use Rattle.dh_size.specs.Summed.{capped_sum, unit_size}
 use Rattle.dh_size.proofs.EventSizes.{events_few, events_sized, size_done}
 use Rattle.dh_size.proofs.sizes.plan_size.Goals as goal
 
@@ -83,4 +83,4 @@ returns-clause-size c =
     let listed : TellsShares p c.as_slice-3.result.now = subst (λ (ss : List (Option _)). TellsShares p ss) (sym c.as_slice-3.ensures.value) shares in
     size_done p (sizes_from p (loops_listed c.as_slice-2.result.now) c.as_slice-3.result.now 0 (all_seen c.as_slice-events.result.now)) c.in_ok-accesses.accesses c.with_command.result c.min-size.result c.in_ok-accesses.ensures
     (events_sized p h.of_text.first h.of_text.numbered c.as_slice-2.result.now noted c.as_slice-events.result.now seen c.as_slice-3.result.now (λ k a e w u. leads_at p h.views table k a e w u) listed)
-    (c.with_command.ensures ∙ ap (λ a. summed c.in_ok-accesses.accesses (unit_size a)) (sym body)) c.min-size.ensures
+    (c.with_command.ensures ∙ ap (λ a. capped_sum c.in_ok-accesses.accesses (unit_size a)) (sym body)) c.min-size.ensures

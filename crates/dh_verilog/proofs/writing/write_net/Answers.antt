@@ -6,9 +6,9 @@ use Rattle.dh_net.specs.BankPorts.{ports_of}
 use Rattle.dh_net.specs.declared.nets.Cell.{Cell}
 use Rattle.dh_net.specs.declared.nets.Register.{Register}
 use Rattle.dh_net.specs.declared.ports.Port.{Port}
-use Rattle.dh_verilog.specs.Listed.{numbered}
+use Rattle.dh_verilog.specs.Listed.{each_numbered}
 use Rattle.dh_verilog.specs.Driving.{driving_text}
-use Rattle.dh_verilog.specs.Text.{register_line, cell_line, outputs_text, clock_text, head_text}
+use Rattle.dh_verilog.specs.Text.{register_line, cell_line, outputs_text, clock_text, netlist_head_text}
 use Rattle.dh_verilog.proofs.Appended.{five, two, moved}
 use Rattle.dh_verilog.proofs.Walks.{of_each}
 use Rattle.dh_verilog.proofs.writing.write_net.Goals as goal
@@ -38,14 +38,14 @@ returns-clause-text c =
     let o4 = string_bytes c.write_drivers.new.out in
     let o5 = string_bytes c.write_outputs.new.out in
     let o6 = string_bytes c.write_clock.new.out in
-    let head = moved (λ t. head_text net t) o1 o0 ports all c.requires.ports c.in_ok-write_head.ensures.text in
-    let registers = moved (numbered register_line 0) o2 o1 c.as_slice-registers.result.now net.registers c.as_slice-registers.ensures c.in_ok-write_registers.ensures.text in
-    let cells = moved (λ t. numbered (cell_line t) 0 t) o3 o2 c.as_slice.result.now net.cells c.as_slice.ensures c.in_ok-write_cells.ensures.text in
+    let head = moved (λ t. netlist_head_text net t) o1 o0 ports all c.requires.ports c.in_ok-write_head.ensures.text in
+    let registers = moved (each_numbered register_line 0) o2 o1 c.as_slice-registers.result.now net.registers c.as_slice-registers.ensures c.in_ok-write_registers.ensures.text in
+    let cells = moved (λ t. each_numbered (cell_line t) 0 t) o3 o2 c.as_slice.result.now net.cells c.as_slice.ensures c.in_ok-write_cells.ensures.text in
     let drivers = moved (λ t. driving_text all t) o4 o3 c.as_slice-2.result.now net.drivers c.as_slice-2.ensures (moved (λ t. driving_text t c.as_slice-2.result.now) o4 o3 ports all c.requires.ports c.in_ok-write_drivers.ensures) in
     let rest = driving_text all net.drivers ++ (outputs_text net.tick net.done net.fault ++ clock_text net.registers all) in
     on_ok_weaker c.write_clock.result
     (λ last.
-    two o0 o1 o6 (head_text net all) (numbered register_line 0 net.registers ++ (numbered (cell_line net.cells) 0 net.cells ++ rest)) head
-    (five o1 o2 o3 o4 o5 o6 (numbered register_line 0 net.registers) (numbered (cell_line net.cells) 0 net.cells) (driving_text all net.drivers) (outputs_text net.tick net.done net.fault) (clock_text net.registers all) registers cells drivers c.in_ok-write_outputs.ensures
+    two o0 o1 o6 (netlist_head_text net all) (each_numbered register_line 0 net.registers ++ (each_numbered (cell_line net.cells) 0 net.cells ++ rest)) head
+    (five o1 o2 o3 o4 o5 o6 (each_numbered register_line 0 net.registers) (each_numbered (cell_line net.cells) 0 net.cells) (driving_text all net.drivers) (outputs_text net.tick net.done net.fault) (clock_text net.registers all) registers cells drivers c.in_ok-write_outputs.ensures
     (moved (λ t. clock_text net.registers t) o6 o5 ports all c.requires.ports (moved (λ t. clock_text t ports) o6 o5 c.as_slice-registers.result.now net.registers c.as_slice-registers.ensures last))))
     c.write_clock.ensures

@@ -5,14 +5,14 @@ use Rattle.dh_tree.specs.Memories.{memories_of}
 use Rattle.dh_tree.specs.Seen.{program_seen}
 use Rattle.dh_tree.specs.ViewFactors.{viewings_breaches}
 use Rattle.dh_tree.specs.Views.{viewed_behind}
-use Rattle.dh_viewing.specs.Finding.{all_found}
+use Rattle.dh_viewing.specs.Finding.{viewings_found}
 use Rattle.dh_viewing.proofs.factors.keep_all.Given as goal
 
 abbrev pub invariant-loop-view : goal.invariant-loop-view
 invariant-loop-view l = record {
   breaches :
-      least_of l.kept (viewings_breaches (memories_of (program_seen l.typed)) l.views (all_found (drop l.view-index l.found)))
-      ≡ least_of l.fn.kept (viewings_breaches (memories_of (program_seen l.typed)) l.fn.views (all_found l.found));
+      least_of l.kept (viewings_breaches (memories_of (program_seen l.typed)) l.views (viewings_found (drop l.view-index l.found)))
+      ≡ least_of l.fn.kept (viewings_breaches (memories_of (program_seen l.typed)) l.fn.views (viewings_found l.found));
   views :
-      viewed_behind (memories_of (program_seen l.typed)) l.views (all_found (drop l.view-index l.found)) ≡ viewed_behind (memories_of (program_seen l.typed)) l.fn.views (all_found l.found);
+      viewed_behind (memories_of (program_seen l.typed)) l.views (viewings_found (drop l.view-index l.found)) ≡ viewed_behind (memories_of (program_seen l.typed)) l.fn.views (viewings_found l.found);
 }

@@ -3,9 +3,9 @@ use Rattle.std.proofs.Common.{◌≡◌, drop}
 use Rattle.dh_tree.specs.Memories.{memories_of}
 use Rattle.dh_tree.specs.Seen.{program_seen}
 use Rattle.dh_tree.specs.ViewBreaches.{kept_behind}
-use Rattle.dh_viewing.specs.Finding.{all_found}
+use Rattle.dh_viewing.specs.Finding.{viewings_found}
 use Rattle.dh_viewing.proofs.judging.push_all_kept.Given as goal
 
 abbrev pub invariant-loop-view : goal.invariant-loop-view
 invariant-loop-view l =
-    kept_behind (memories_of (program_seen l.typed)) l.kept (all_found (drop l.view-index l.found)) ≡ kept_behind (memories_of (program_seen l.typed)) l.fn.kept (all_found l.found)
+    kept_behind (memories_of (program_seen l.typed)) l.kept (viewings_found (drop l.view-index l.found)) ≡ kept_behind (memories_of (program_seen l.typed)) l.fn.kept (viewings_found l.found)

@@ -1,13 +1,13 @@
 use Rattle.std.proofs.Common.{ℕ, ◌++◌, [], ◌∷◌, Some, subst, sym}
 use Rattle.std.specs.Prelude.{slice_set}
 use Rattle.dh_tree.proofs.Collecting.{no_number, some_number}
-use Rattle.dh_ways.specs.Placed.{ArePlaced}
+use Rattle.dh_ways.specs.Placed.{AreLinkPlaces}
 use Rattle.dh_ways.proofs.PlacedWays.{now_placed, placed_before}
 use Rattle.dh_ways.proofs.placing.note.Goals as goal
 
 pub returns-then-is_none : goal.returns-then-is_none
 returns-then-is_none c vs v h n e =
-    subst (λ (x : ℕ). ArePlaced (vs ++ v ∷ []) (slice_set c.args.places.now c.args.entity (Some x))) (sym n)
+    subst (λ (x : ℕ). AreLinkPlaces (vs ++ v ∷ []) (slice_set c.args.places.now c.args.entity (Some x))) (sym n)
     (now_placed vs v c.args.places.now h c.args.entity e (no_number _ c.is_none.result c.is_none.ensures c.if-is_none.true) c.requires)
 
 pub returns-else-is_none : goal.returns-else-is_none

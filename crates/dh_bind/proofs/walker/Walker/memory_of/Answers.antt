@@ -1,5 +1,5 @@
 use Rattle.std.proofs.Common.{sym, ap, ◌∙◌, arith, ℕ, List, Option}
-use Rattle.dh_bind.specs.Costs.{costs_in, memory_at}
+use Rattle.dh_bind.specs.Costs.{costs_in, memory_of_access}
 use Rattle.dh_bind.specs.Standings.{Standing}
 use Rattle.dh_bind.proofs.StandingFacts.{memory_read, past_memory, memory_inside}
 use Rattle.dh_bind.proofs.walker.Walker.memory_of.Goals as goal
@@ -11,5 +11,5 @@ returns-then-at-memories-clause-inside c =
 
 pub returns-else-at-memories-clause-memory : goal.returns-else-at-memories-clause-memory
 returns-else-at-memories-clause-memory c =
-    sym (ap (λ (s : Standing). memory_at s.costs.memories c.args.access) (sym c.self.view_is)
-    ∙ (ap (λ (l : List (Option ℕ)). memory_at l c.args.access) (sym c.as_slice-memories.ensures.value) ∙ past_memory c.as_slice-memories.result.now c.args.access (omega arith)))
+    sym (ap (λ (s : Standing). memory_of_access s.costs.memories c.args.access) (sym c.self.view_is)
+    ∙ (ap (λ (l : List (Option ℕ)). memory_of_access l c.args.access) (sym c.as_slice-memories.ensures.value) ∙ past_memory c.as_slice-memories.result.now c.args.access (omega arith)))

@@ -3,7 +3,7 @@ use Rattle.dh_tree.specs.declared.trees.programs.Function.{Function}
 use Rattle.dh_tree.specs.Seen.{defined_seen}
 use Rattle.dh_tree.specs.NameCounts.{declared_in, declared_in_functions}
 use Rattle.dh_tree.specs.Seen.{action_seen, formal_seen}
-use Rattle.dh_names.specs.Walks.{Room, state_of}
+use Rattle.dh_names.specs.Walks.{HasRoomToDeclare, state_of}
 use Rattle.dh_base.proofs.InPlace.{start_fits, turn_fits, item_fits}
 use Rattle.dh_names.proofs.FunctionsDone.{function_step, function_made, state_size, function_cost, function_grows, functions_start, function_turn, functions_done, length_map}
 use Rattle.dh_names.proofs.walks.Walk.functions.Goals as goal
@@ -12,7 +12,7 @@ pub loop-function-init : goal.loop-function-init
 loop-function-init c = record {
   unvisited = (refl, λ k d past. refl);
   so = start_fits defined_seen function_step function_made state_size function_cost function_grows (2 ^ 32) _ _
-      (functions_start (c.args.first, state_of c.args.self.now) _ (subst (λ l. Room (state_of c.args.self.now) (declared_in_functions (map defined_seen l))) (sym c.deref_mut-function-items.ensures.value) c.requires.room));
+      (functions_start (c.args.first, state_of c.args.self.now) _ (subst (λ l. HasRoomToDeclare (state_of c.args.self.now) (declared_in_functions (map defined_seen l))) (sym c.deref_mut-function-items.ensures.value) c.requires.room));
   outside = c.requires.outside;
   number = omega arith;
 }
@@ -24,8 +24,8 @@ pub function-requires-clause-room : goal.function-requires-clause-room
 function-requires-clause-room c =
     let x = c.function-item.result in
     let y = get_or c.loop-function.function-items c.loop-function.function-index x in
-    subst (λ (z : Function). Room (state_of c.loop-function.self) (length z.parameters.items + declared_in (action_seen z.body))) c.function-item.is
-    (subst (λ n. Room (state_of c.loop-function.self) (n + declared_in (action_seen x.body))) (length_map formal_seen x.parameters.items)
+    subst (λ (z : Function). HasRoomToDeclare (state_of c.loop-function.self) (length z.parameters.items + declared_in (action_seen z.body))) c.function-item.is
+    (subst (λ n. HasRoomToDeclare (state_of c.loop-function.self) (n + declared_in (action_seen x.body))) (length_map formal_seen x.parameters.items)
     (item_fits defined_seen function_step function_made state_size function_cost function_grows (2 ^ 32) c.deref_mut-function-items.result.now c.loop-function.function-items c.loop-function.function-index (c.args.first, state_of c.args.self.now) (c.loop-function.number, state_of c.loop-function.self) x
     (omega (arith, c.loop-function-test.true, c.loop-function.auto.function-items)) c.loop-function.invariant.unvisited c.loop-function.invariant.so c.function-item.is))
 
@@ -39,7 +39,7 @@ loop-function-preserved c =
     let s = state_of c.loop-function.self in
     let s' = state_of c.function.new.self in
     let start = functions_start (c.args.first, state_of c.args.self.now) c.deref_mut-function-items.result.now
-    (subst (λ l. Room (state_of c.args.self.now) (declared_in_functions (map defined_seen l))) (sym c.deref_mut-function-items.ensures.value) c.requires.room) in
+    (subst (λ l. HasRoomToDeclare (state_of c.args.self.now) (declared_in_functions (map defined_seen l))) (sym c.deref_mut-function-items.ensures.value) c.requires.room) in
     let one = function_turn c.loop-function.number s s' c.function-item.result _ (defined_seen c.function.new.function) c.function-item.is c.in_ok-function.ensures in
     let t = turn_fits defined_seen function_step function_made state_size function_cost function_grows (2 ^ 32) c.deref_mut-function-items.result.now c.loop-function.function-items c.loop-function.function-index (c.args.first, state_of c.args.self.now)
     (c.loop-function.number, s) (c.loop-function.number + 1, s') c.function-item.result c.function.new.function

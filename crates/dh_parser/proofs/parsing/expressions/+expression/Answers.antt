@@ -6,7 +6,7 @@ use Rattle.dh_parser.proofs.Going.{ok_then, err_then, given, when_true, when_fal
 use Rattle.dh_parser.proofs.Loops.{loop_after, loop_goes, loop_refused, loop_done, through}
 use Rattle.dh_parser.proofs.OperatorLoops.{chain_begins, chain_none, joins_goes, joins_refused}
 use Rattle.dh_parser.proofs.TermLoops.{terms_first, terms_listed, terms_listed_all, indices_go, indices_end, element_is, row_is, bracket_is}
-use Rattle.dh_parser.specs.TreesOfTexts.{name_text}
+use Rattle.dh_parser.specs.TreesOfTexts.{text_of_name}
 use Rattle.dh_parser.proofs.TermForms.{unnumbered, variable_seen, access_seen, physical_seen, cast_seen}
 use Rattle.dh_parser.proofs.parsing.expressions.+expression.Goals as goal
 
@@ -50,7 +50,7 @@ read_indices-returns-clause-answer t c =
 
 pub read_named-returns-clause-answer : goal.read_named-returns-clause-answer
 read_named-returns-clause-answer t c =
-    when_false _ _ (sym c.if-goes_on.ensures) (record { holds = (variable_seen _ (name_text c.args.of) c.plain.ensures (unnumbered c.args.of c.requires), refl) })
+    when_false _ _ (sym c.if-goes_on.ensures) (record { holds = (variable_seen _ (text_of_name c.args.of) c.plain.ensures (unnumbered c.args.of c.requires), refl) })
 
 pub read_index-returns-in_err-skip-clause-answer : goal.read_index-returns-in_err-skip-clause-answer
 read_index-returns-in_err-skip-clause-answer t c =
@@ -90,15 +90,15 @@ read_bracketed-returns-in_err-inner-clause-answer t c =
 
 pub read_access-returns-then-not-is_next-clause-answer : goal.read_access-returns-then-not-is_next-clause-answer
 read_access-returns-then-not-is_next-clause-answer t c =
-    rw (element_is (name_text c.args.of) _ (sym c.if-not-is_next.ensures))
-    (made_of (λ p. element (name_text c.args.of) p.0 p.1) c.read_indices-indices.ensures.answer c.element_of.ensures
-    (λ es e p s m. access_seen c.args.of (name_text c.args.of) es p.0 p.1 m (unnumbered c.args.of c.requires) s))
+    rw (element_is (text_of_name c.args.of) _ (sym c.if-not-is_next.ensures))
+    (made_of (λ p. element (text_of_name c.args.of) p.0 p.1) c.read_indices-indices.ensures.answer c.element_of.ensures
+    (λ es e p s m. access_seen c.args.of (text_of_name c.args.of) es p.0 p.1 m (unnumbered c.args.of c.requires) s))
 
 pub read_access-returns-clause-answer : goal.read_access-returns-clause-answer
 read_access-returns-clause-answer t c =
-    rw (row_is (name_text c.args.of) _ (sym c.if-not-is_next.ensures))
-    (made_of (λ p. physical (name_text c.args.of) p.0.opener p.0.bank p.0.closer p.1) c.read_row-row.ensures.answer c.row_of.ensures
-    (λ w e p s m. physical_seen c.args.of (name_text c.args.of) w p.0 p.1 m (unnumbered c.args.of c.requires) s))
+    rw (row_is (text_of_name c.args.of) _ (sym c.if-not-is_next.ensures))
+    (made_of (λ p. physical (text_of_name c.args.of) p.0.opener p.0.bank p.0.closer p.1) c.read_row-row.ensures.answer c.row_of.ensures
+    (λ w e p s m. physical_seen c.args.of (text_of_name c.args.of) w p.0 p.1 m (unnumbered c.args.of c.requires) s))
 
 pub read_row-returns-in_err-bank-clause-answer : goal.read_row-returns-in_err-bank-clause-answer
 read_row-returns-in_err-bank-clause-answer t c =
