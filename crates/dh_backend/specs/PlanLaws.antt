@@ -32,7 +32,7 @@ pub record IsUnchecked (plan addressed : PlainPlan) (number : ℕ) : Type 0 wher
       → (c j ok : ℕ) (other : Option ℕ) → slice_get (operations_in addressed c) j ≡ Some (record { guard = other; form = Check ok fault }) → ⊥
   pub constants : (c j : ℕ) (t : Reach) → HasUse addressed c j t → t.access ≡ number → IsConstantOr addressed c t.row × IsConstantOr addressed c t.select
 
--- so of each access of the program whose indices are literals, and which passes through no view that moves
+-- so of each access of the program whose indices are literals, and which passes through no view that moves, or whose row is
 abbrev pub LiteralsAreUnchecked : Program → Type 0
 LiteralsAreUnchecked p =
     (plan addressed : PlainPlan) → IsPlanOf p plan → IsAddressingOf plan addressed → (number : ℕ) (a : SourceAccess) → slice_get (accesses_in (trace p)) number ≡ Some a → IsLiteralSource p a

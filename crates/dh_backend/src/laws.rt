@@ -28,8 +28,8 @@ pub fn accepted_runs_go_on()
     ensures { (p : Program) → AcceptedNeverStuck p }
 {}
 
-/// An access of a program whose indices are literals, and which passes through no view that moves, has no check in the
-/// plan with banks and rows, and its bank and row are constants there.
+/// An access of a program whose indices are literals, and which passes through no view that moves, or whose row of a bank
+/// is a literal, has no check in the plan with banks and rows, and its bank and row are constants there.
 pub fn literal_accesses_are_unchecked()
     ensures { (p : Program) → LiteralsAreUnchecked p }
 {}

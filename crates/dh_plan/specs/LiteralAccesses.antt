@@ -1,7 +1,7 @@
 -- Accesses whose elements are named by literals: which accesses of a program are so, and what its plan states of them. Such
 -- an access leads to an element in every run: each literal index of an accepted program is within the sizes of what it
--- names, and a view that stands still takes an index of its own to one of its parent. So none of its checks can fail, and
--- all that its address is made of is constant.
+-- names, each literal row is one of the rows of a bank, and a view that stands still takes an index of its own to one of
+-- its parent. So none of its checks can fail, and all that its address is made of is constant.
 use Rattle.std.specs.Prelude.{◌≡◌, ℕ, ◌+◌, List, slice_get, Option, Some, None}
 use Rattle.std.specs.List.{AllByRecursion}
 use Rattle.dh_value.specs.declared.words.Word.{Word}
@@ -39,10 +39,10 @@ abbrev pub AreLiteral : plain.Terms → Type 0
 AreLiteral plain.no_terms = Unit {0}
 AreLiteral (plain.term_then t ts) = IsLiteral t × AreLiteral ts
 
--- an element that is named by literal indices alone; nothing is stated of a row of a bank
+-- an element that is named by literal indices alone, or by a literal row of a bank
 abbrev pub IsLiteralElement : Element → Type 0
 IsLiteralElement (with_indices indices) = AreLiteral indices
-IsLiteralElement (in_row bank row) = ⊥
+IsLiteralElement (in_row bank row) = IsLiteral row
 
 -- a view of this sort does not move
 abbrev pub StandsStill : ViewSort → Type 0

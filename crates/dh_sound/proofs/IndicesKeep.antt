@@ -145,7 +145,10 @@ row_keeps : (known : IndexContext) (entity : Option ℕ) (bank : ℕ) (place : P
     → ElementKeeps known entity (in_row bank row)
 row_keeps known entity bank place row e m f k =
     let kept : kept_dims (memory_in known.memories entity) ≡ Some m.shape.dims = ap kept_dims f ∙ ap (λ (b : Bool). if b then Some m.shape.dims else None) k in
-    (refl, not_beyond (banks_of m.shape.dims) bank (when_none _ _ (first_none (physical_bank_breaches m.shape.dims bank place) _ (sym (ap (λ ds. physical_breaches ds bank place row) kept) ∙ e))))
+    let both : physical_breaches (Some m.shape.dims) bank place row ≡ [] = sym (ap (λ ds. physical_breaches ds bank place row) kept) ∙ e in (
+      second_none (physical_bank_breaches m.shape.dims bank place) _ both,
+      not_beyond (banks_of m.shape.dims) bank (when_none _ _ (first_none (physical_bank_breaches m.shape.dims bank place) _ both)),
+    )
 
 module _ (known : IndexContext) where
   both_keep : (xs ys : List SourceEvent) → EventsKeep known xs → EventsKeep known ys → EventsKeep known (xs ++ ys)

@@ -425,7 +425,7 @@ module _ (all : Facts) (cs : List Counter) (iterators : AreKnownIterators all cs
         let integer = is_index (found row) i.kind (place_of row) i.is (first_none (index_breaches (found row) (place_of row)) _ below) in
         let element = bank_known (fact_of facts r) name.known.fact place (found row) i.kind (fact_is facts r name) name.known.good (first_none (bank_breaches (fact_of facts r) place) _ h.kinds) i.is integer in
         with_kind facts want place m (in_bank r bank bank_place row) element.0 e element.1.0 element.1.1 tt tt
-        (both_have cs (source_term_events site row) (one_access place r.entity (in_row bank row) false site) i.events (tt, tt))
+        (both_have cs (source_term_events site row) (one_access place r.entity (in_row bank row) false site) i.events (record { whole = integer_of cs site row i integer; parts = i.parts }, tt))
     term_kinds facts bs x k want s (term place m (applied o left right)) e h =
         let parts = typed_parts facts want place m (applied o left right) e in
         let left_typed : typed_term facts (left_want o want (is_bare left) (is_bare right) (found (typed_term facts None right))) left ≡ left = let eq = parts.0 in cc in

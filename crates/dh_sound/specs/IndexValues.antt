@@ -13,7 +13,7 @@ use Rattle.dh_tree.specs.declared.trees.expressions.Ref.{Ref}
 use Rattle.dh_tree.specs.Breaches.{KeepsNames}
 use Rattle.dh_tree.specs.Counters.{turn_count, counters_of, counter_in}
 use Rattle.dh_tree.specs.Elements.{Spot}
-use Rattle.dh_tree.specs.Indices.{IndexKind, constant, iterator, dynamic, all_fit, form_of, indices_breaches}
+use Rattle.dh_tree.specs.Indices.{IndexKind, constant, iterator, dynamic, all_fit, form_of, indices_breaches, row_breaches}
 use Rattle.dh_tree.specs.KindBreaches.{KeepsKinds}
 use Rattle.dh_tree.specs.Kinds.{found, is_value, signed_number, HasKinds}
 use Rattle.dh_tree.specs.WiderKinds.{wider}
@@ -182,19 +182,19 @@ abbrev pub IsByIndices : Element → Type 0
 IsByIndices (with_indices indices) = Unit {0}
 IsByIndices (in_row bank row) = ⊥
 
--- the kinds of the indices of an element, and the turns of unrolled loops in which it finds their iterators
+-- the kinds of the indices of an element, or of its row, and the turns of unrolled loops in which it finds their iterators
 abbrev pub HasElementKinds : List Counter → Element → Type 0
 HasElementKinds cs (with_indices indices) = AllHaveIndexKinds cs indices
-HasElementKinds cs (in_row bank row) = Unit {0}
+HasElementKinds cs (in_row bank row) = HasIndexKinds cs row
 
 abbrev pub ElementInTurn : Known → List Counter → (loops : List Counter) → Path → Variables → Element → Type 0
 ElementInTurn known cs loops path v (with_indices indices) = AllInTurn known cs loops path v indices
 ElementInTurn known cs loops path v (in_row bank row) = Unit {0}
 
--- no index of an element breaks a rule in these dimensions
+-- the rules that an index of an element, or its row, breaks in these dimensions
 abbrev pub element_breaches : List Counter → List Dim → Element → List Breach
 element_breaches cs dims (with_indices indices) = indices_breaches cs dims indices
-element_breaches cs dims (in_row bank row) = []
+element_breaches cs dims (in_row bank row) = row_breaches dims row
 
 -- Accesses.
 

@@ -1,17 +1,20 @@
 -- Each access of a program whose element is named by literals, through views that stand still, is so in its plan: its indices
 -- are constants, no offset is taken, and it leads to an element in every step, as the literals of an accepted program are
--- within the sizes of what is named, and views that stand still lead from there into the memory. And no other access has
--- the fault of its probes, as each access has one of its own and nothing is checked.
+-- within the sizes of what is named, and views that stand still lead from there into the memory. A literal row is one of the
+-- rows of a bank; it goes through no view. And no other access has the fault of its probes, as each access has one of its
+-- own and nothing is checked.
 use Rattle.std.proofs.Common.{◌≡◌, ℕ, ◌+◌, ◌<◌, ◌≤◌, ◌^◌, Bool, true, if◌then◌else◌, List, [], ◌∷◌, ◌++◌, length, map, take, drop, Option, Some, None, refl, ap, sym, ◌∙◌, subst, arith, ℤ}
 use Rattle.std.specs.Prelude.{slice_get, unsigned_abs}
 use Rattle.std.specs.List.{AllByRecursion}
 use Rattle.dh_value.specs.declared.kinds.Kind.{Kind}
 use Rattle.dh_value.specs.declared.words.Word.{Word}
+use Rattle.dh_value.specs.Words.{value_of}
 use Rattle.dh_tree.specs.declared.tables.Dim.{Dim}
 use Rattle.dh_tree.specs.declared.tables.MemEntry.{MemEntry}
 use Rattle.dh_tree.specs.declared.viewing.ViewMap.{ViewMap}
 use Rattle.dh_tree.specs.Counters.{counters_of}
-use Rattle.dh_tree.specs.Elements.{dims_at, entry_dims, spot_of}
+use Rattle.dh_tree.specs.Elements.{dims_at, entry_dims, rows_of, spot_in_bank, spot_of}
+use Rattle.dh_tree.specs.Indices.{row_breaches}
 use Rattle.dh_tree.specs.Memories.{Memory, entry_of, memories_of, memory_in, number_in, table_of}
 use Rattle.dh_tree.specs.PlainTrees as plain
 use Rattle.dh_tree.specs.PlainTrees.{Program}
@@ -21,6 +24,7 @@ use Rattle.dh_tree.specs.ViewElements.{is_inside}
 use Rattle.dh_tree.specs.ViewFactors.{factor_breaches_of}
 use Rattle.dh_tree.proofs.EmptyLists.{first_none}
 use Rattle.dh_meaning.specs.AccessNumbers.{accesses_of}
+use Rattle.dh_meaning.specs.Effects.{is_row}
 use Rattle.dh_meaning.specs.CoreOf.{Known, entity_number, way_of}
 use Rattle.dh_meaning.specs.Sites.{nothing_around}
 use Rattle.dh_meaning.specs.Ways.{WayStep, Way, base_of, way_to, ways_of}
@@ -30,8 +34,8 @@ use Rattle.dh_plan.specs.declared.operations.OperationForm.{OperationForm}
 use Rattle.dh_plan.specs.declared.operations.OperationForm.TheVariants.{Constant, Old, Compute, Convert, Select, Check, Probe, Read, Write, Set}
 use Rattle.dh_plan.specs.declared.operations.Reach.{Reach}
 use Rattle.dh_plan.specs.declared.operations.ReachStep.{ReachStep}
-use Rattle.dh_plan.specs.Blocks.{numbers_at, passages, spot_if_inside, spot_in_row}
-use Rattle.dh_plan.specs.LiteralAccesses.{HasLiterals, HasSourceLiterals, IsAlwaysInside, IsConstantAt, IsLiteralAccess, IsLiteralElement, IsLiteralSource, IsStill, NamedByConstants}
+use Rattle.dh_plan.specs.Blocks.{bank_picked, numbers_at, passages, spot_if_inside, spot_in_row, word_at}
+use Rattle.dh_plan.specs.LiteralAccesses.{HasLiterals, HasSourceLiterals, IsAlwaysInside, IsConstantAt, IsConstantOr, IsLiteral, IsLiteralAccess, IsLiteralElement, IsLiteralSource, IsStill, NamedByConstants}
 use Rattle.dh_plan.specs.Ordered.{IsBetween, form_takes, offsets_taken, one_or_none, reach_takes}
 use Rattle.dh_plan.specs.Passages.{indices_behind}
 use Rattle.dh_plan.specs.PlainPlans.{PlainPlan, first_in, operations_in}
@@ -43,7 +47,7 @@ use Rattle.dh_plan.proofs.ViewsPassed.{passed}
 use Rattle.dh_ways.specs.Leading.{KeepsOffsets, LeadsTo, next_dims}
 use Rattle.dh_ways.proofs.WaysKept.{ways_keep}
 use Rattle.dh_sound.specs.BlockTold.{IsOfMemory}
-use Rattle.dh_sound.specs.IndexValues.{HasElementKinds, element_breaches}
+use Rattle.dh_sound.specs.IndexValues.{HasElementKinds, HasIndexKinds, element_breaches}
 use Rattle.dh_sound.specs.ToldEvents.{access_at}
 use Rattle.dh_sound.proofs.BanksReached.{numbered}
 use Rattle.dh_sound.proofs.EventCounts.{events_counted}
@@ -52,6 +56,7 @@ use Rattle.dh_sound.proofs.IndicesThrough.{keeps_through}
 use Rattle.dh_sound.proofs.KindsOfPrograms.{indices_have_kinds}
 use Rattle.dh_sound.proofs.OwnMemories.{itself}
 use Rattle.dh_sound.proofs.PortsKept.{typed_program}
+use Rattle.dh_sound.proofs.RowsDirect.{ready_direct}
 use Rattle.dh_sound.proofs.SortsOfPrograms.{accesses_declared}
 use Rattle.dh_sound.proofs.ViewedWays.{found_holds, kept_ways_lead, led_to}
 use Rattle.dh_expressions.specs.declared.accesses.Touched.{Touched}
@@ -72,7 +77,7 @@ use Rattle.dh_used.specs.UsedPlans.{OneNodeEach}
 use Rattle.dh_used.proofs.NodesReach.{made_plans_reach}
 use Rattle.dh_used.proofs.PlansAim.{made_plans_aim}
 use Rattle.dh_told.proofs.BlocksWithin.{stands_among}
-use Rattle.dh_told.proofs.LiteralIndices.{AreWithin, literals_within}
+use Rattle.dh_told.proofs.LiteralIndices.{AreWithin, IsWithin, literals_within, row_within}
 use Rattle.dh_told.proofs.StillViews.{AreStill, still_leads, still_takes, steps_pass}
 
 -- What holds of an operation holds of its access.
@@ -161,11 +166,20 @@ module _ (scene : Scene) (final : Made) (plan : PlainPlan) (is : IsMadeOf scene 
     suits : ReachSuits plan (first_in plan block) (kinds_of plan block) r
     suits = form_reach plan (first_in plan block) (kinds_of plan block) h.operation.form r h.accesses ((formed.blocks block).suits i h.operation h.there).form
 
-    between : AllByRecursion (IsBetween (first_in plan block) (first_in plan block + i)) r.indices
-    between =
-        all_left (IsBetween (first_in plan block) (first_in plan block + i)) r.indices (offsets_taken r.steps ++ (one_or_none r.select ++ one_or_none r.row))
-        (taken_by (IsBetween (first_in plan block) (first_in plan block + i)) h.operation.form r h.accesses
-        (all_right (IsBetween (first_in plan block) (first_in plan block + i)) (one_or_none h.operation.guard) (form_takes h.operation.form) ((formed.blocks block).ordered.each i h.operation h.there)))
+    abbrev Earlier : ℕ → Type 0
+    Earlier value = IsBetween (first_in plan block) (first_in plan block + i) value
+
+    taken : AllByRecursion Earlier (reach_takes r)
+    taken = taken_by Earlier h.operation.form r h.accesses (all_right Earlier (one_or_none h.operation.guard) (form_takes h.operation.form) ((formed.blocks block).ordered.each i h.operation h.there))
+
+    between : AllByRecursion Earlier r.indices
+    between = all_left Earlier r.indices (offsets_taken r.steps ++ (one_or_none r.select ++ one_or_none r.row)) taken
+
+    row_between : (row : ℕ) → r.row ≡ Some row → Earlier row
+    row_between row is =
+        (subst (λ (o : Option ℕ). AllByRecursion Earlier (one_or_none o)) is
+        (all_right Earlier (one_or_none r.select) (one_or_none r.row)
+        (all_right Earlier (offsets_taken r.steps) (one_or_none r.select ++ one_or_none r.row) (all_right Earlier r.indices (offsets_taken r.steps ++ (one_or_none r.select ++ one_or_none r.row)) taken)))).0
 
     -- of what is named: its dimensions, in which the element keeps the rules; no offset is taken, and indices inside lead on
     record IsNamed : Type 0 where
@@ -176,19 +190,17 @@ module _ (scene : Scene) (final : Made) (plan : PlainPlan) (is : IsMadeOf scene 
       pub leads : (ws : List Word) (zs : List ℤ) → is_inside dims zs ≡ true
           → (last : List ℤ) × ((indices_behind plan.views (passages (first_in plan block) ws r.steps) zs ≡ Some last) × (is_inside (dims_at plan.table r.memory) last ≡ true))
 
-    memory_named : way_to p a.entity ≡ None → r.steps ≡ [] → IsNamed
-    memory_named none steps = record {
+    -- of a memory that is named itself: its dimensions, in which the element keeps the rules
+    record IsOwn : Type 0 where
+      pub dims : List Dim
+      pub keeps : element_breaches (counters_of p) dims a.element ≡ []
+      pub dims_are : dims_at plan.table r.memory ≡ dims
+
+    own_memory : way_to p a.entity ≡ None → IsOwn
+    own_memory none = record {
       dims = own.memory.shape.dims;
       keeps = (access_keeps p ready.indices ready.views r.access a aimed.there own.memory here).none;
-      sizes = λ ds s. subst (λ (ss : List ReachStep). AreSteps plan (first_in plan block) (kinds_of plan block) r.memory ss ds) steps s ∙ dims_are;
-      offsets = ap offsets_taken steps;
-      leads = λ ws zs e. (
-        zs,
-        (
-          ap (λ (ss : List ReachStep). indices_behind plan.views (passages (first_in plan block) ws ss) zs) steps,
-          ap (λ (ds : List Dim). is_inside ds zs) dims_are ∙ e,
-        ),
-      );
+      dims_are = memory_dims r.memory a.entity own.memory here (memory_is ∙ ap (λ (o : Option Way). number_of (base_of o a.entity)) none);
     }
       where
         own : IsOfMemory p a
@@ -197,8 +209,22 @@ module _ (scene : Scene) (final : Made) (plan : PlainPlan) (is : IsMadeOf scene 
         here : memory_in (memories_of p) a.entity ≡ Some own.memory
         here = subst (λ (o : Option ℕ). memory_in (memories_of p) o ≡ Some own.memory) (sym (itself p a.entity own.entity none own.is)) own.declared
 
-        dims_are : dims_at plan.table r.memory ≡ own.memory.shape.dims
-        dims_are = memory_dims r.memory a.entity own.memory here (memory_is ∙ ap (λ (o : Option Way). number_of (base_of o a.entity)) none)
+    memory_named : way_to p a.entity ≡ None → r.steps ≡ [] → IsNamed
+    memory_named none steps =
+        let own = own_memory none in
+        record {
+          dims = own.dims;
+          keeps = own.keeps;
+          sizes = λ ds s. subst (λ (ss : List ReachStep). AreSteps plan (first_in plan block) (kinds_of plan block) r.memory ss ds) steps s ∙ own.dims_are;
+          offsets = ap offsets_taken steps;
+          leads = λ ws zs e. (
+            zs,
+            (
+              ap (λ (ss : List ReachStep). indices_behind plan.views (passages (first_in plan block) ws ss) zs) steps,
+              ap (λ (ds : List Dim). is_inside ds zs) own.dims_are ∙ e,
+            ),
+          );
+        }
 
     view_named : (w : Way) → way_to p a.entity ≡ Some w → (values : List ℕ) → r.steps ≡ steps_told scene.through.now (first_view scene aimed.ref) w.steps values → AreStill w.steps → IsNamed
     view_named w at values steps still = record {
@@ -276,12 +302,42 @@ module _ (scene : Scene) (final : Made) (plan : PlainPlan) (is : IsMadeOf scene 
                   ∙ (ap (λ (o : Option (List ℤ)). spot_if_inside plan.table r.memory o) l.1.0 ∙ ap (λ (b : Bool). if b then Some (spot_of plan.table r.memory (map unsigned_abs l.0)) else None) l.1.1),
             )
 
+    -- by a row of a bank; no bank is picked yet
+    row_here : (bank : ℕ) (row : plain.Term) → a.element ≡ in_row bank row → IsLiteral row → AimsAt scene os aimed.ref (in_row bank row) r → HasLiterals plan block r
+    row_here bank row element literal aims = record {
+      constants = subst (λ (o : Option ℕ). NamedByConstants plan block r o) (sym aims.1.0) (within.constant, subst (λ (o : Option ℕ). IsConstantOr plan block o) (sym aimed.select) tt);
+      inside = inside;
+    }
+      where
+        own : IsOwn
+        own = own_memory (ready_direct p ready r.access a aimed.there bank row element)
+
+        kinds : HasIndexKinds (counters_of p) row
+        kinds = subst (λ (e : Element). HasElementKinds (counters_of p) e) element (indices_have_kinds p (typed_program p ready) r.access a aimed.there)
+
+        keeps : row_breaches own.dims row ≡ []
+        keeps = subst (λ (e : Element). element_breaches (counters_of p) own.dims e ≡ []) element own.keeps
+
+        within : IsWithin plan os final.starts.items is.blocks block (formed.blocks block) (counters_of p) (rows_of own.dims) aims.0
+        within = row_within plan os final.starts.items is.blocks block (formed.blocks block) (counters_of p) i h.operation h.there own.dims row aims.0 literal aims.1.1 kinds keeps (row_between aims.0 aims.1.0)
+
+        inside : IsAlwaysInside plan block r
+        inside registers memories =
+            let first = first_in plan block in
+            let s = start_at plan registers memories in
+            let ws = block_values plan s block in
+            let spot = spot_in_bank plan.table r.memory (bank_picked first ws r.banks r.select) (unsigned_abs (value_of (word_at first ws aims.0))) in (
+              spot,
+              ap (λ (o : Option ℕ). spot_in_row s first ws r o) aims.1.0
+                  ∙ ap (λ (b : Bool). if b then Some spot else None) (ap (λ (ds : List Dim). is_row ds (value_of (word_at first ws aims.0))) own.dims_are ∙ within.inside registers memories),
+            )
+
     literal_own : IsLiteralSource p a → HasLiterals plan block r
     literal_own literal = by a.element refl literal.element aimed.element
       where
         by : (e : Element) → a.element ≡ e → IsLiteralElement e → AimsAt scene os aimed.ref e r → HasLiterals plan block r
         by (with_indices ts) element is_literal aims = literal_here ts element is_literal aims (named literal.way aims.1.1)
-        by (in_row bank row) element is_literal aims = absurd is_literal
+        by (in_row bank row) element is_literal aims = row_here bank row element is_literal aims
 
     pub has_literals : (x : SourceAccess) → access_at p r.access ≡ Some x → IsLiteralSource p x → HasLiterals plan block r
     has_literals x at literal = literal_own (subst (λ (y : SourceAccess). IsLiteralSource p y) (some_same x a (sym at ∙ aimed.there)) literal)
