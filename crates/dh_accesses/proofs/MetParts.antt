@@ -17,7 +17,7 @@ use Rattle.dh_tree.specs.Seen.{action_seen, actions, part_seen, groups, all_part
 use Rattle.dh_tree.specs.declared.trees.commands.Command.{Command}
 use Rattle.dh_phases.specs.Counted.{behind}
 use Rattle.dh_accesses.specs.Met.{SameMeets, MeetsRow, MeetsAll, MeetsCommand, MeetsOther, MeetsParts}
-use Rattle.dh_accesses.specs.declared.meeting.Met.{Met}
+use Rattle.dh_accesses.specs.declared.meeting.MeetingAccesses.{MeetingAccesses}
 use Rattle.dh_phases.proofs.CountedParts.{behind_twice, behind_few, behind_none, behind_small}
 use Rattle.dh_accesses.proofs.SameTrees.{same_refl, same_is, same_trans, all_same, one_same, pair_all, pair_one, alls_onto, ones_onto, alls_end, ones_end, alls_more, ones_more}
 
@@ -54,7 +54,7 @@ row_done first end n v h so =
     all_is v ∙ (sym (alls_end v.items) ∙ (ap (λ k. alls_onto v.items (row_of_accesses n k)) past ∙ so))
 
 -- a row of the accesses behind a number
-pub row_met : (first count next : ℕ) (m : Met) → next ≡ behind first count → MeetsRow first next m → MeetsAll first count (row_of_accesses first count) m
+pub row_met : (first count next : ℕ) (m : MeetingAccesses) → next ≡ behind first count → MeetsRow first next m → MeetsAll first count (row_of_accesses first count) m
 row_met first count next m is r = record {
   next_is = r.next_is ∙ is;
   same = λ few. same_is _ _ (r.seen ∙ ap (λ k. row_of_accesses first k) (ap (λ n. n - first) (is ∙ behind_few first count few) ∙ add-sub_cancel_left first count));
@@ -63,11 +63,11 @@ row_met first count next m is r = record {
 -- Tests, arms and loops.
 
 -- of a command of this form
-pub form_met : (unrolled : Bool) (first : ℕ) (f g : ActionForm) (m : Met) → f ≡ g → MeetsAll first (own_accesses g + inner_accesses g) (command_meets unrolled first g) m
+pub form_met : (unrolled : Bool) (first : ℕ) (f g : ActionForm) (m : MeetingAccesses) → f ≡ g → MeetsAll first (own_accesses g + inner_accesses g) (command_meets unrolled first g) m
     → MeetsAll first (own_accesses f + inner_accesses f) (command_meets unrolled first f) m
 form_met unrolled first f g m is met = subst (λ h. MeetsAll first (own_accesses h + inner_accesses h) (command_meets unrolled first h) m) (sym is) met
 
-pub met_if : (unrolled : Bool) (first tests own : ℕ) (chosen : Action) (other : MaybeAction) (t c o : Met) (arms whole : Tree)
+pub met_if : (unrolled : Bool) (first tests own : ℕ) (chosen : Action) (other : MaybeAction) (t c o : MeetingAccesses) (arms whole : Tree)
     → tests ≡ behind first own → MeetsRow first tests t → MeetsCommand unrolled t.next chosen c → MeetsOther unrolled c.next other o
     → SameMeets (meets_seen arms) (arms_meet unrolled (meets_seen c.meets) (meets_seen o.meets)) → SameMeets (meets_seen whole) (all (meets_seen t.meets) (meets_seen arms))
     → MeetsAll first (own + (accesses_of chosen + other_accesses other))
@@ -94,7 +94,7 @@ met_if unrolled first tests own chosen other t c o arms whole is row done last j
     by_arm true f g = all_same _ _ _ _ f g
     by_arm false f g = one_same _ _ _ _ f g
 
-pub met_while : (unrolled : Bool) (first tests own : ℕ) (body : Action) (t b : Met) (whole : Tree)
+pub met_while : (unrolled : Bool) (first tests own : ℕ) (body : Action) (t b : MeetingAccesses) (whole : Tree)
     → tests ≡ behind first own → MeetsRow first tests t → MeetsCommand unrolled t.next body b → SameMeets (meets_seen whole) (one (meets_seen t.meets) (meets_seen b.meets))
     → MeetsAll first (own + accesses_of body) (one (row_of_accesses first own) (meets unrolled (first + own) body)) record { meets = whole; next = b.next }
 met_while unrolled first tests own body t b whole is row done put = record {
@@ -109,7 +109,7 @@ met_while unrolled first tests own body t b whole is row done put = record {
     told : t.next ≡ behind first own
     told = row.next_is ∙ is
 
-pub met_for : (unrolled inside : Bool) (first factor : ℕ) (body : Action) (combine : MaybeAction) (b o : Met) (whole : Tree)
+pub met_for : (unrolled inside : Bool) (first factor : ℕ) (body : Action) (combine : MaybeAction) (b o : MeetingAccesses) (whole : Tree)
     → inside ≡ (unrolled || nat_lt 1 factor) → MeetsCommand inside first body b → MeetsOther inside b.next combine o
     → SameMeets (meets_seen whole) (all (meets_seen b.meets) (meets_seen o.meets))
     → MeetsAll first (0 + (accesses_of body + other_accesses combine))
@@ -158,7 +158,7 @@ part_begins unrolled first whole done next part rest all_left is g = record {
   same = λ few s t a b. g.same few (one s t) (subst (λ r. SameMeets (one s t) (groups_meet unrolled next r)) (sym is) (one_same _ _ _ _ a b));
 }
 
-pub part_goes_on : (unrolled : Bool) (first : ℕ) (whole : Groups) (done group more : List Tree) (now : ℕ) (a : Action) (left : Actions) (rest : Groups) (m : Met)
+pub part_goes_on : (unrolled : Bool) (first : ℕ) (whole : Groups) (done group more : List Tree) (now : ℕ) (a : Action) (left : Actions) (rest : Groups) (m : MeetingAccesses)
     → MeetsCommand unrolled now a m → more ≡ group ++ m.meets ∷ [] → PartMet unrolled first whole done group now (action_then a left) rest
     → PartMet unrolled first whole done more m.next left rest
 part_goes_on unrolled first whole done group more now a left rest m own is p = record {
@@ -211,7 +211,7 @@ part_init unrolled first parts i part cs done group next within is own none g =
     (subst (λ l. PartMet unrolled first (all_parts_seen parts) done [] next (actions (map action_seen l)) rest) (sym own)
     (part_begins unrolled first (all_parts_seen parts) done next (part_seen part) rest (all_parts_seen (drop i parts)) (ap all_parts_seen (at_item parts i part within is)) g))
 
-pub part_next : (unrolled : Bool) (first : ℕ) (whole : Groups) (done group more : List Tree) (now : ℕ) (cs : List Command) (k : ℕ) (c : Command) (rest : Groups) (m : Met)
+pub part_next : (unrolled : Bool) (first : ℕ) (whole : Groups) (done group more : List Tree) (now : ℕ) (cs : List Command) (k : ℕ) (c : Command) (rest : Groups) (m : MeetingAccesses)
     → k < length cs → c ≡ get_or cs k c → MeetsCommand unrolled now (action_seen c) m → more ≡ group ++ m.meets ∷ []
     → PartMet unrolled first whole done group now (actions (map action_seen (drop k cs))) rest
     → PartMet unrolled first whole done more m.next (actions (map action_seen (drop (k + 1) cs))) rest

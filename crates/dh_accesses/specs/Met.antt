@@ -7,7 +7,7 @@ use Rattle.dh_plan.specs.SeenPlans.{meets_seen}
 use Rattle.dh_tree.specs.Meets.{Meets, In, Distinct, Apart, Before}
 use Rattle.dh_tree.specs.PlainTrees.{Action, MaybeAction, Groups}
 use Rattle.dh_phases.specs.Counted.{behind}
-use Rattle.dh_accesses.specs.declared.meeting.Met.{Met}
+use Rattle.dh_accesses.specs.declared.meeting.MeetingAccesses.{MeetingAccesses}
 
 -- the same accesses, of which the same may meet, in the same order
 pub record SameMeets (x y : Meets) : Type 0 where
@@ -16,22 +16,22 @@ pub record SameMeets (x y : Meets) : Type 0 where
   pub order : (a b : ℕ) → Before x a b ↔ Before y a b
   pub distinct : Distinct y → Distinct x
 
-pub record MeetsRow (first next : ℕ) (m : Met) : Type 0 where
+pub record MeetsRow (first next : ℕ) (m : MeetingAccesses) : Type 0 where
   pub seen : meets_seen m.meets ≡ row_of_accesses first (next - first)
   pub next_is : m.next ≡ next
 
 -- of a part with so many accesses, numbered from `first` on: it says what the definition says, and counts them
-pub record MeetsAll (first count : ℕ) (defined : Meets) (m : Met) : Type 0 where
+pub record MeetsAll (first count : ℕ) (defined : Meets) (m : MeetingAccesses) : Type 0 where
   pub next_is : m.next ≡ behind first count
   pub same : first + count < 2 ^ 32 → SameMeets (meets_seen m.meets) defined
 
-abbrev pub MeetsCommand : (unrolled : Bool) → (first : ℕ) → Action → Met → Type 0
+abbrev pub MeetsCommand : (unrolled : Bool) → (first : ℕ) → Action → MeetingAccesses → Type 0
 MeetsCommand unrolled first a m = MeetsAll first (accesses_of a) (meets unrolled first a) m
 
-abbrev pub MeetsOther : (unrolled : Bool) → (first : ℕ) → MaybeAction → Met → Type 0
+abbrev pub MeetsOther : (unrolled : Bool) → (first : ℕ) → MaybeAction → MeetingAccesses → Type 0
 MeetsOther unrolled first o m = MeetsAll first (other_accesses o) (other_meets unrolled first o) m
 
-abbrev pub MeetsParts : (unrolled : Bool) → (first : ℕ) → Groups → Met → Type 0
+abbrev pub MeetsParts : (unrolled : Bool) → (first : ℕ) → Groups → MeetingAccesses → Type 0
 MeetsParts unrolled first gs m = MeetsAll first (groups_accesses gs) (groups_meet unrolled first gs) m
 
 -- of a program's body

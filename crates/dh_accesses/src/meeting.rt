@@ -64,7 +64,7 @@ fn arms(alloc: Global, unrolled: bool, chosen: Meets, other: Meets) -> Result<Me
 
 /// Which accesses of a part of a program may meet.
 #[derive(Drop)]
-pub struct Met {
+pub struct MeetingAccesses {
     /// As a tree.
     pub meets: Meets,
     /// The number behind theirs.
@@ -72,17 +72,22 @@ pub struct Met {
 }
 
 /// The accesses from a number on below another.
-fn met_row(alloc: Global, first: u32, next: u32) -> Result<Met, NoMemory>
+fn met_row(alloc: Global, first: u32, next: u32) -> Result<MeetingAccesses, NoMemory>
     ensures { IfOk result (λ m. MeetsRow first next m) }
 {
     let meets = row(alloc, first, next)?;
-    Ok(Met { meets, next })
+    Ok(MeetingAccesses { meets, next })
 }
 
 /// Those of a command, numbered from one on, that stands in an unrolled loop or does not.
 #[cycle(meeting)]
 #[tactic(auto, using(dh_tree::proofs::SeenActions::actions_are))]
-fn meet(alloc: Global, unrolled: bool, first: u32, command: &Command) -> Result<Met, NoMemory>
+fn meet(
+    alloc: Global,
+    unrolled: bool,
+    first: u32,
+    command: &Command,
+) -> Result<MeetingAccesses, NoMemory>
     ensures { IfOk result (λ m. MeetsCommand unrolled first (action_seen command.now) m) }
 {
     match &command.form {
@@ -99,7 +104,7 @@ fn meet(alloc: Global, unrolled: bool, first: u32, command: &Command) -> Result<
             let other = meet_other(alloc, unrolled, chosen.next, other)?;
             let arms = arms(alloc, unrolled, chosen.meets, other.meets)?;
             let meets = both(alloc, tests.meets, arms)?;
-            Ok(Met {
+            Ok(MeetingAccesses {
                 meets,
                 next: other.next,
             })
@@ -108,7 +113,7 @@ fn meet(alloc: Global, unrolled: bool, first: u32, command: &Command) -> Result<
             let tests = met_row(alloc, first, behind_term(first, test))?;
             let body = meet(alloc, unrolled, tests.next, body)?;
             let meets = either(alloc, tests.meets, body.meets)?;
-            Ok(Met {
+            Ok(MeetingAccesses {
                 meets,
                 next: body.next,
             })
@@ -123,7 +128,7 @@ fn meet(alloc: Global, unrolled: bool, first: u32, command: &Command) -> Result<
             let body = meet(alloc, inside, first, body)?;
             let joins = meet_other(alloc, inside, body.next, combine)?;
             let meets = both(alloc, body.meets, joins.meets)?;
-            Ok(Met {
+            Ok(MeetingAccesses {
                 meets,
                 next: joins.next,
             })
@@ -139,7 +144,7 @@ fn meet_other(
     unrolled: bool,
     first: u32,
     other: &Option<Box<Command>>,
-) -> Result<Met, NoMemory>
+) -> Result<MeetingAccesses, NoMemory>
     ensures { IfOk result (λ m. MeetsOther unrolled first (maybe_block_seen other.now) m) }
 {
     match other {
@@ -156,7 +161,7 @@ fn meet_parts(
     unrolled: bool,
     first: u32,
     parts: &[Vec<Command>],
-) -> Result<Met, NoMemory>
+) -> Result<MeetingAccesses, NoMemory>
     ensures { IfOk result (λ m. MeetsParts unrolled first (all_parts_seen parts.now) m) }
 {
     let mut next = first;
@@ -170,7 +175,7 @@ fn meet_parts(
         }
         all_groups.push(Meets::All { parts: group })?;
     }
-    Ok(Met {
+    Ok(MeetingAccesses {
         meets: Meets::One { parts: all_groups },
         next,
     })

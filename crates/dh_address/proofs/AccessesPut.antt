@@ -20,7 +20,7 @@ use Rattle.dh_rows.specs.Readings.{Readings, Obeys, IsEarlierValue, OperationsGr
 use Rattle.dh_rows.specs.RowsShown.{IsInput}
 use Rattle.dh_rows.proofs.Growing.{grows_self, grows_on, value_later, maybe_later, adds_self, adds_on, earlier_later}
 use Rattle.dh_address.specs.declared.literals.LiteralPlace.{LiteralPlace}
-use Rattle.dh_address.specs.declared.operands.Operand.{Operand}
+use Rattle.dh_address.specs.declared.operands.BlockValue.{BlockValue}
 use Rattle.dh_address.specs.LiteralPlaces.{literal_places}
 use Rattle.dh_address.specs.Pieces.{RenumberedBlock, new_number, new_or_none, known_kind, indices_and_offsets, operand_values, aimed_reach, is_banked, aim_width, select_width, waited, IsAimedReach}
 use Rattle.dh_address.specs.WaysMade.{operand_of}
@@ -33,7 +33,7 @@ all_join P [] ys h k = k
 all_join P (x ∷ xs) ys h k = (h.0, all_join P xs ys h.1 k)
 
 -- indices are as many as the memory's dimensions, where there is no row
-abbrev pub HasMany : List MemEntry → Reach → (row : Option ℕ) → List Operand → Type 0
+abbrev pub HasMany : List MemEntry → Reach → (row : Option ℕ) → List BlockValue → Type 0
 HasMany table r None is = length is ≡ length (dims_at table r.memory)
 HasMany table r (Some row) is = Unit {0}
 
@@ -76,7 +76,7 @@ module _ (x : Readings) (clock : ℕ) (a : RenumberedBlock) where
   operands_there os [] k h = tt
   operands_there os (v ∷ vs) k h = (operand_there os v k.0 h.0, operands_there os vs k.1 h.1)
 
-  there_inputs : (os : List Operation) (is : List Operand) → AllByRecursion (IsThere x clock os) is → AllByRecursion (λ i. IsInput x clock os i) (operand_values is)
+  there_inputs : (os : List Operation) (is : List BlockValue) → AllByRecursion (IsThere x clock os) is → AllByRecursion (λ i. IsInput x clock os i) (operand_values is)
   there_inputs os [] h = tt
   there_inputs os (i ∷ is) h = (λ o. (h.0.stands o).earlier, there_inputs os is h.1)
 
@@ -155,7 +155,7 @@ module _ (x : Readings) (clock : ℕ) (a : RenumberedBlock) where
       (numbers_there old os g (offsets_taken r.steps) (all_right IsNumberKnown r.indices (offsets_taken r.steps) k) (all_left P (offsets_taken r.steps) _ behind))
 
   module _ (p : PlainPlan) (tables : a.table ≡ p.table) (formed : IsProgramTable p.table) (r : Reach) (suits : ReachSuits p a.first a.kinds r) where
-    place_fits : (is : List Operand) (place : Option LiteralPlace) → literal_places (dims_at a.table r.memory) is 0 0 ≡ place → length is ≡ length (dims_at a.table r.memory)
+    place_fits : (is : List BlockValue) (place : Option LiteralPlace) → literal_places (dims_at a.table r.memory) is 0 0 ≡ place → length is ≡ length (dims_at a.table r.memory)
         → PlaceFits x clock (aim_width (dims_at a.table r.memory)) (select_width (dims_at a.table r.memory)) place
     place_fits is None e long = tt
     place_fits is (Some place) e long =
@@ -167,7 +167,7 @@ module _ (x : Readings) (clock : ℕ) (a : RenumberedBlock) where
         less : (n m b : ℕ) → n < m → m < b → n < b
         less n m b l k = omega (arith, l, k)
 
-    pub aims_put : (row : Option ℕ) → r.row ≡ row → IsPicksGiven r row → (is : List Operand) (old last : List Operation) (t : Reach) → IsAimedReach a r row is old last t → x.first ≤ length old
+    pub aims_put : (row : Option ℕ) → r.row ≡ row → IsPicksGiven r row → (is : List BlockValue) (old last : List Operation) (t : Reach) → IsAimedReach a r row is old last t → x.first ≤ length old
         → HasMany a.table r row is → AllByRecursion (IsThere x clock old) is → AllByRecursion (IsInputOf (length old)) (reach_takes r) → PutsAccess r old last t
     aims_put None e picks is old last t h begun long there taken =
         let P = IsInputOf (length old) in

@@ -27,7 +27,7 @@ use Rattle.dh_rows.specs.MadeOperations.{pushed, IsMade}
 use Rattle.dh_rows.proofs.Growing.{grows_self, grows_on, grown_length, kept_there, pushed_grows, obeys_before, maybe_later, adds_on, pushed_adds, pushed_value}
 use Rattle.dh_address.proofs.WaySizes.{HasMaps}
 use Rattle.dh_address.specs.Pieces.{RenumberedBlock, aimed_reach, indices_and_offsets, is_probe, is_probe_form, new_number, new_or_none, check_made, AreChecked, false_behind_all, false_word, new_takes, waited, is_banked, IsProbeValue, IsAimedReach, IsAccessMade, IsReadMade, IsWriteMade, IsProbed, IsFormMade}
-use Rattle.dh_address.specs.declared.operands.Operand.{Operand}
+use Rattle.dh_address.specs.declared.operands.BlockValue.{BlockValue}
 use Rattle.dh_address.specs.declared.operands.Ranged.{Ranged}
 use Rattle.dh_address.specs.LiteralPlaces.{literal_places}
 use Rattle.dh_address.specs.Renumbered.{renumbered}
@@ -281,7 +281,7 @@ module _ (p : PlainPlan) (maps : HasMaps p) (tables : IsProgramTable p.table) (b
           together bound (back bound r.indices (all_left Timed r.indices _ taken) (all_left P (map (new_number a) r.indices) (map (new_number a) (offsets_taken r.steps)) h))
           (back bound (offsets_taken r.steps) offsets_timed (all_right P (map (new_number a) r.indices) (map (new_number a) (offsets_taken r.steps)) h)) k l
 
-      aims_back : (row : Option ℕ) → r.row ≡ row → (is : List Operand) (here last : List Operation) (t : Reach) → IsAimedReach a r row is here last t → first ≤ length here → OperationsGrow last all
+      aims_back : (row : Option ℕ) → r.row ≡ row → (is : List BlockValue) (here last : List Operation) (t : Reach) → IsAimedReach a r row is here last t → first ≤ length here → OperationsGrow last all
           → (bound : ℕ) → AllByRecursion (λ m. x.clock m ≤ bound) (reach_takes t) → AllByRecursion (λ v. old_clock v ≤ bound) (reach_takes r)
       aims_back None e is here last t h begun grows bound below =
           let P = λ (m : ℕ). x.clock m ≤ bound in

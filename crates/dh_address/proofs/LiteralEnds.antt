@@ -2,10 +2,10 @@
 use Rattle.std.proofs.Common.{◌≡◌, ℕ, zero, suc, ◌≤◌, List, refl, arith, length, drop, min}
 use Rattle.std.specs.Prelude.{Some, [], ◌∷◌}
 use Rattle.dh_tree.specs.declared.tables.Dim.{Dim}
-use Rattle.dh_address.specs.declared.operands.Operand.{Operand}
+use Rattle.dh_address.specs.declared.operands.BlockValue.{BlockValue}
 use Rattle.dh_address.specs.LiteralPlaces.{literal_places}
 
-pub places_end : (dims : List Dim) (indices : List Operand) (k row bank : ℕ) → min (length dims) (length indices) ≤ k
+pub places_end : (dims : List Dim) (indices : List BlockValue) (k row bank : ℕ) → min (length dims) (length indices) ≤ k
     → literal_places (drop k dims) (drop k indices) row bank ≡ Some (record { row = row; bank = bank })
 places_end [] indices zero row bank l = refl
 places_end [] indices (suc k) row bank l = refl

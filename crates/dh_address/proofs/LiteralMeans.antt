@@ -23,7 +23,7 @@ use Rattle.dh_rows.specs.RowsShown.{IsWideEnough, is_below_size}
 use Rattle.dh_rows.specs.MadeOperations.{bits_in}
 use Rattle.dh_rows.proofs.BitsOfNumbers.{bits_above, bits_most}
 use Rattle.dh_address.specs.declared.literals.LiteralPlace.{LiteralPlace}
-use Rattle.dh_address.specs.declared.operands.Operand.{Operand}
+use Rattle.dh_address.specs.declared.operands.BlockValue.{BlockValue}
 use Rattle.dh_address.specs.LiteralPlaces.{natural_in, natural_if, whole_in, whole_if_constant, whole_at, constant_form, constant_guarded, constant_in, literal_at, below_size, and_then, literal_places}
 use Rattle.dh_address.specs.Pieces.{aim_width, select_width}
 
@@ -129,12 +129,12 @@ literal_in_range n size l = natural_range n size ∙ less n size l
 -- Places.
 
 -- these indices are these literals, each below its size
-abbrev pub AreLiterals : List Dim → (indices : List Operand) → (numbers : List ℕ) → Type 0
+abbrev pub AreLiterals : List Dim → (indices : List BlockValue) → (numbers : List ℕ) → Type 0
 AreLiterals [] [] [] = Unit {0}
 AreLiterals (d ∷ ds) (i ∷ is) (n ∷ ns) = (below_size i.literal d.size ≡ Some n) × AreLiterals ds is ns
 AreLiterals _ _ _ = ⊥
 
-pub record IsPlaceOf (dims : List Dim) (indices : List Operand) (place : LiteralPlace) (row bank : ℕ) : Type 0 where
+pub record IsPlaceOf (dims : List Dim) (indices : List BlockValue) (place : LiteralPlace) (row bank : ℕ) : Type 0 where
   pub numbers : List ℕ
   pub literals : AreLiterals dims indices numbers
   pub row_is : place.row ≡ (row * rows_of dims + row_of dims numbers) % 2 ^ 64
@@ -166,7 +166,7 @@ small_is n l = sym (mod-eq_of_lt l) ∙ ap (λ (k : ℕ). k % 2 ^ 64) (same n)
 below_word : (n : ℕ) → n % 2 ^ 64 < 2 ^ 64
 below_word n = mod-lt n {m = 2 ^ 64} (pow_pos 64)
 
-places_are : (dims : List Dim) (indices : List Operand) (row bank : ℕ) (place : LiteralPlace) → length indices ≡ length dims → row < 2 ^ 64 → bank < 2 ^ 64
+places_are : (dims : List Dim) (indices : List BlockValue) (row bank : ℕ) (place : LiteralPlace) → length indices ≡ length dims → row < 2 ^ 64 → bank < 2 ^ 64
     → literal_places dims indices row bank ≡ Some place → IsPlaceOf dims indices place row bank
 places_are [] [] row bank place long r b e =
     let same : record { row = row; bank = bank } ≡ place = cc in
@@ -193,7 +193,7 @@ places_are (d ∷ ds) (i ∷ is) row bank place long r b e =
           bank_is = more.bank_is ∙ digit_wrapped bank d.banks (n % d.banks) (banks_of ds) (bank_of ds more.numbers) (2 ^ 64);
         }
 
-literals_within : (dims : List Dim) (indices : List Operand) (numbers : List ℕ) → AreLiterals dims indices numbers → is_within dims numbers ≡ true
+literals_within : (dims : List Dim) (indices : List BlockValue) (numbers : List ℕ) → AreLiterals dims indices numbers → is_within dims numbers ≡ true
 literals_within [] [] [] h = refl
 literals_within [] [] (n ∷ ns) h = absurd h
 literals_within [] (i ∷ is) ns h = absurd h
@@ -321,7 +321,7 @@ select_suffices table memory h = of (banks_of (dims_at table memory)) (less _ _ 
 
 -- A place that is made of literals is row and bank of their element.
 
-pub record IsLiteralPlace (dims : List Dim) (indices : List Operand) (place : LiteralPlace) : Type 0 where
+pub record IsLiteralPlace (dims : List Dim) (indices : List BlockValue) (place : LiteralPlace) : Type 0 where
   pub numbers : List ℕ
   pub literals : AreLiterals dims indices numbers
   pub row_is : place.row ≡ row_of dims numbers
@@ -329,7 +329,7 @@ pub record IsLiteralPlace (dims : List Dim) (indices : List Operand) (place : Li
   pub row_small : place.row < elements_of dims
   pub bank_within : place.bank < banks_of dims
 
-pub literal_place_is : (dims : List Dim) (indices : List Operand) (place : LiteralPlace) → AllByRecursion IsDim dims → elements_of dims < 2 ^ 64
+pub literal_place_is : (dims : List Dim) (indices : List BlockValue) (place : LiteralPlace) → AllByRecursion IsDim dims → elements_of dims < 2 ^ 64
     → length indices ≡ length dims → literal_places dims indices 0 0 ≡ Some place → IsLiteralPlace dims indices place
 literal_place_is dims indices place formed small long e =
     let p = places_are dims indices 0 0 place long (pow_pos 64) (pow_pos 64) e in

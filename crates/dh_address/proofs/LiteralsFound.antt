@@ -39,7 +39,7 @@ use Rattle.dh_plan.proofs.ValuesAlike.{all_left, all_right, memories_look_back}
 use Rattle.dh_rows.proofs.DealtIndices.{dealt_small}
 use Rattle.dh_rows.specs.RowsShown.{is_below_size}
 use Rattle.dh_address.specs.declared.literals.LiteralPlace.{LiteralPlace}
-use Rattle.dh_address.specs.declared.operands.Operand.{Operand}
+use Rattle.dh_address.specs.declared.operands.BlockValue.{BlockValue}
 use Rattle.dh_address.specs.declared.operands.Ranged.{Ranged}
 use Rattle.dh_address.specs.Arounds.{RenumberedBlock}
 use Rattle.dh_address.specs.LiteralPlaces.{and_then, below_size, constant_in, literal_at, literal_in, literal_places, natural_in, whole_at, whole_if_constant, whole_in}
@@ -84,7 +84,7 @@ abbrev pub AreAllLiteral : List Ranged → Type 0
 AreAllLiteral rs = AllByRecursion IsLiteral rs
 
 -- Where all indices are literals there is a place of literals.
-pub places_found : (ds : List Dim) (is : List Operand) (row bank : ℕ) → AreAllLiteral (ranges_by ds is) → (place : LiteralPlace) × (literal_places ds is row bank ≡ Some place)
+pub places_found : (ds : List Dim) (is : List BlockValue) (row bank : ℕ) → AreAllLiteral (ranges_by ds is) → (place : LiteralPlace) × (literal_places ds is row bank ≡ Some place)
 places_found [] is row bank h = (_, refl)
 places_found (d ∷ ds) [] row bank h = (_, refl)
 places_found (d ∷ ds) (i ∷ is) row bank h =
@@ -95,20 +95,20 @@ places_found (d ∷ ds) (i ∷ is) row bank h =
 -- Operands that are literals.
 
 -- it is this whole number
-pub record IsKnownAs (o : Operand) (z : ℤ) : Type 0 where
+pub record IsKnownAs (o : BlockValue) (z : ℤ) : Type 0 where
   pub number : ℕ
   pub literal : o.literal ≡ Some number
   pub value : z ≡ pos number
 
-abbrev pub AreKnownAs : List Operand → List ℤ → Type 0
+abbrev pub AreKnownAs : List BlockValue → List ℤ → Type 0
 AreKnownAs [] [] = Unit {0}
 AreKnownAs (o ∷ os) (z ∷ zs) = IsKnownAs o z × AreKnownAs os zs
 AreKnownAs _ _ = ⊥
 
-known_below : (o : Operand) (z : ℤ) (size : ℕ) (k : IsKnownAs o z) → is_below_size z size ≡ true → below_size o.literal size ≡ Some k.number
+known_below : (o : BlockValue) (z : ℤ) (size : ℕ) (k : IsKnownAs o z) → is_below_size z size ≡ true → below_size o.literal size ≡ Some k.number
 known_below o z size k e = ap (λ (l : Option ℕ). below_size l size) k.literal ∙ below_found k.number size (ap (λ (y : ℤ). is_below_size y size) (sym k.value) ∙ e)
 
-pub known_literal : (ds : List Dim) (os : List Operand) (zs : List ℤ) → AreKnownAs os zs → is_inside ds zs ≡ true → AreAllLiteral (ranges_by ds os)
+pub known_literal : (ds : List Dim) (os : List BlockValue) (zs : List ℤ) → AreKnownAs os zs → is_inside ds zs ≡ true → AreAllLiteral (ranges_by ds os)
 known_literal [] os zs h e = tt
 known_literal (d ∷ ds) [] zs h e = tt
 known_literal (d ∷ ds) (o ∷ os) [] h e = absurd h
@@ -164,11 +164,11 @@ moved_found (negsuc a) k i size few more l m inside =
     fewer : (y : ℤ) (w v b : ℕ) → y ≡ neg_ℤ (pos w) → w ≡ v → int_le (pos 0) (y +ℤ pos b) ≡ true → v ≤ b
     fewer y w v b p t e = omega (arith, ints, p, t, e)
 
-pub record IsOneKnown (size factor : ℕ) (e i : Operand) (ez iz : ℤ) (os : List Operation) : Type 0 where
+pub record IsOneKnown (size factor : ℕ) (e i : BlockValue) (ez iz : ℤ) (os : List Operation) : Type 0 where
   pub none : maybe_range (offset_bounded os e ((size - 1) / factor)).range ≡ []
   pub index : IsKnownAs (moved_operand (offset_bounded os e ((size - 1) / factor)).operations size factor e i).operand ((pos factor *ℤ ez) +ℤ iz)
 
-one_known : (size factor : ℕ) (e i : Operand) (ez iz : ℤ) (os : List Operation) → size < 2 ^ 60 → 1 ≤ size → 1 ≤ factor → e.whole ≡ Some ez → IsKnownAs i iz → is_index size iz ≡ true
+one_known : (size factor : ℕ) (e i : BlockValue) (ez iz : ℤ) (os : List Operation) → size < 2 ^ 60 → 1 ≤ size → 1 ≤ factor → e.whole ≡ Some ez → IsKnownAs i iz → is_index size iz ≡ true
     → is_index size ((pos factor *ℤ ez) +ℤ iz) ≡ true → IsOneKnown size factor e i ez iz os
 one_known size factor e i ez iz os few some more whole k inside there =
     let bound = (size - 1) / factor in
@@ -191,12 +191,12 @@ whole_found (kind.Unsigned w) bits sized = refl
 whole_found (kind.Signed w) bits sized = ap (λ (b : Bool). if b then Some (signed w bits) else None) (at_most w 64 sized.1)
 
 -- offsets that are constants
-abbrev pub AreWholes : List Operand → List ℤ → Type 0
+abbrev pub AreWholes : List BlockValue → List ℤ → Type 0
 AreWholes [] [] = Unit {0}
 AreWholes (e ∷ es) (z ∷ zs) = (e.whole ≡ Some z) × AreWholes es zs
 AreWholes _ _ = ⊥
 
-wholes_long : (es : List Operand) (zs : List ℤ) → AreWholes es zs → length es ≡ length zs
+wholes_long : (es : List BlockValue) (zs : List ℤ) → AreWholes es zs → length es ≡ length zs
 wholes_long [] [] h = refl
 wholes_long [] (z ∷ zs) h = absurd h
 wholes_long (e ∷ es) [] h = absurd h
@@ -204,17 +204,17 @@ wholes_long (e ∷ es) (z ∷ zs) h = ap suc (wholes_long es zs h.1)
 
 -- behind those of a way come these
 pub record AllKnown (w after : IndexWay) (zs : List ℤ) : Type 0 where
-  pub more : List Operand
+  pub more : List BlockValue
   pub ranges_are : after.ranges ≡ w.ranges
   pub indices_are : after.indices ≡ w.indices ++ more
   pub known : AreKnownAs more zs
 
-known_more : (w next after : IndexWay) (i : Operand) (z : ℤ) (zs : List ℤ) (here : List Ranged) → next.ranges ≡ w.ranges ++ here → here ≡ [] → next.indices ≡ w.indices ++ i ∷ [] → IsKnownAs i z → AllKnown next after zs
+known_more : (w next after : IndexWay) (i : BlockValue) (z : ℤ) (zs : List ℤ) (here : List Ranged) → next.ranges ≡ w.ranges ++ here → here ≡ [] → next.indices ≡ w.indices ++ i ∷ [] → IsKnownAs i z → AllKnown next after zs
     → AllKnown w after (z ∷ zs)
 known_more w next after i z zs here ranges none indices k rest = record {
   more = i ∷ rest.more;
   ranges_are = rest.ranges_are ∙ (ranges ∙ (ap (λ (rs : List Ranged). w.ranges ++ rs) none ∙ append-nil w.ranges));
-  indices_are = rest.indices_are ∙ (ap (λ (l : List Operand). l ++ rest.more) indices ∙ append_assoc w.indices (i ∷ []) rest.more);
+  indices_are = rest.indices_are ∙ (ap (λ (l : List BlockValue). l ++ rest.more) indices ∙ append_assoc w.indices (i ∷ []) rest.more);
   known = (k, rest.known);
 }
 
@@ -222,7 +222,7 @@ nothing_inside : (zs : List ℤ) → is_inside [] zs ≡ true → zs ≡ []
 nothing_inside [] e = refl
 nothing_inside (z ∷ zs) e = absurd (cc)
 
-all_known : (ds : List Dim) (ks : List ℕ) (es is : List Operand) (ez iz : List ℤ) (w : IndexWay) → AreFew ds → AreFactors ks → length ks ≡ length ds → length es ≡ length ds → AreWholes es ez → AreKnownAs is iz
+all_known : (ds : List Dim) (ks : List ℕ) (es is : List BlockValue) (ez iz : List ℤ) (w : IndexWay) → AreFew ds → AreFactors ks → length ks ≡ length ds → length es ≡ length ds → AreWholes es ez → AreKnownAs is iz
     → is_inside ds iz ≡ true → is_inside ds (sums (multiples ks ez) iz) ≡ true → AllKnown w (moved_all ds ks es is w) (sums (multiples ks ez) iz)
 all_known [] ks es is ez iz w few some kl el whole k inside there = record {
   more = [];
@@ -246,7 +246,7 @@ all_known (d ∷ ds) (f ∷ ks) (e ∷ es) (i ∷ is) (y ∷ ez) (z ∷ iz) w fe
 
 -- Ways.
 
-split_known : (vs ps : List Dim) (ks : List ℕ) (is : List Operand) (zs : List ℤ) (os : List Operation) → AreSplitOf vs ps ks → AreFew vs → AreFew ps → AreKnownAs is zs → is_inside vs zs ≡ true
+split_known : (vs ps : List Dim) (ks : List ℕ) (is : List BlockValue) (zs : List ℤ) (os : List Operation) → AreSplitOf vs ps ks → AreFew vs → AreFew ps → AreKnownAs is zs → is_inside vs zs ≡ true
     → AreKnownAs (split_made vs ps is os).indices (split_index (first_banks ps) (slice_index ks 0) zs)
 split_known [] ps ks is zs os h own few k e = absurd h
 split_known (v ∷ []) ps ks is zs os h own few k e = absurd h
@@ -285,7 +285,7 @@ split_known (v ∷ (w ∷ [])) (p ∷ []) (f ∷ []) (a ∷ (b ∷ is)) (y ∷ (
       tt,
     )
 
-sort_known : (sort : ViewSort) (v : ViewMap) (es is : List Operand) (ez zs : List ℤ) (os : List Operation) (tested : List Ranged) → IsShapeOf sort v.shape.dims v.parent.dims v.by → AreFew v.shape.dims
+sort_known : (sort : ViewSort) (v : ViewMap) (es is : List BlockValue) (ez zs : List ℤ) (os : List Operation) (tested : List Ranged) → IsShapeOf sort v.shape.dims v.parent.dims v.by → AreFew v.shape.dims
     → AreFew v.parent.dims → length es ≡ offsets_needed sort v.parent.dims → AreWholes es ez → AreKnownAs is zs → is_inside v.shape.dims zs ≡ true
     → is_inside v.parent.dims (parent_index sort (first_banks v.parent.dims) v.by ez zs) ≡ true → AreAllLiteral tested
     → AreAllLiteral (passed_by sort v es is os tested).ranges × AreKnownAs (passed_by sort v es is os tested).indices (parent_index sort (first_banks v.parent.dims) v.by ez zs)
@@ -294,7 +294,7 @@ sort_known Split v es is ez zs os tested h own few el whole k e there l = (l, sp
 sort_known Suffix v es is ez zs os tested h own few el whole k e there l =
     let inside = subst (λ (ds : List Dim). is_inside ds zs ≡ true) (suffix_same v.shape.dims v.parent.dims v.by h) e in
     let m = all_known v.parent.dims v.by es is ez zs (way os tested []) few (suffix_factors v.shape.dims v.parent.dims v.by h) (dims_long Suffix v.shape.dims v.parent.dims v.by h).1 el whole k inside there in
-    (subst (λ (rs : List Ranged). AreAllLiteral rs) (sym m.ranges_are) l, subst (λ (js : List Operand). AreKnownAs js (sums (multiples v.by ez) zs)) (sym m.indices_are) m.known)
+    (subst (λ (rs : List Ranged). AreAllLiteral rs) (sym m.ranges_are) l, subst (λ (js : List BlockValue). AreKnownAs js (sums (multiples v.by ez) zs)) (sym m.indices_are) m.known)
 sort_known Shift v es is ez zs os tested h own few el whole k e there l =
     let factors = unit_factors v.parent.dims in
     let same = ones_sums v.parent.dims ez zs (sym (wholes_long es ez whole) ∙ el) in
@@ -302,7 +302,7 @@ sort_known Shift v es is ez zs os tested h own few el whole k e there l =
     let there_too = subst (λ (ys : List ℤ). is_inside v.parent.dims ys ≡ true) (sym same) there in
     let m = all_known v.parent.dims factors es is ez zs (way os tested []) few (ones_factors v.parent.dims) (mapped_long (λ d. 1) v.parent.dims) el whole k inside there_too in (
       subst (λ (rs : List Ranged). AreAllLiteral rs) (sym m.ranges_are) l,
-      subst (λ (js : List Operand). AreKnownAs js (sums ez zs)) (sym m.indices_are) (subst (λ (ys : List ℤ). AreKnownAs m.more ys) same m.known),
+      subst (λ (js : List BlockValue). AreKnownAs js (sums ez zs)) (sym m.indices_are) (subst (λ (ys : List ℤ). AreKnownAs m.more ys) same m.known),
     )
 
 module _ (p : PlainPlan) (maps : HasMaps p) (tables : IsProgramTable p.table) (first : ℕ) (kinds : List Kind) (memory : ℕ) (offsets : ReachStep → List ℤ) (spot : Spot) where

@@ -26,7 +26,7 @@ use Rattle.dh_rows.proofs.Growing.{grown_length, grows_on, grows_self, kept_ther
 use Rattle.dh_address.proofs.WaySizes.{HasMaps}
 use Rattle.dh_address.specs.declared.literals.LiteralPlace.{LiteralPlace}
 use Rattle.dh_address.specs.Pieces.{RenumberedBlock, IsAim, IsAimBut, IsAimedReach, IsAimedByIndices, aim_width, is_banked, new_number, new_or_none, select_width, operand_values, waited}
-use Rattle.dh_address.specs.declared.operands.Operand.{Operand}
+use Rattle.dh_address.specs.declared.operands.BlockValue.{BlockValue}
 use Rattle.dh_address.specs.WaysMade.{ranges_by, reach_passed}
 use Rattle.dh_address.specs.Images.{IsImage, around_block, operations_until}
 use Rattle.dh_address.proofs.ImageReadings.{at_last, behind_front}
@@ -216,7 +216,7 @@ module _ (p q : PlainPlan) (h : IsImage p q) (formed : (block : ℕ) → IsForme
           let ranges = (literal_ways p c (formed c) a own maps tables r suits literals u.before).1 is in
           let dims = dims_at a.table r.memory in
           let at_own : AreAllLiteral (ranges_by dims put.made.indices)
-          = subst (λ (os : List Operand). AreAllLiteral (ranges_by dims os)) (sym put.made.passes.1.1) (subst (λ (t : List MemEntry). AreAllLiteral (ranges_by (dims_at t r.memory) (reach_passed a r u.before).indices)) (sym u.table_is) ranges)
+          = subst (λ (os : List BlockValue). AreAllLiteral (ranges_by dims os)) (sym put.made.passes.1.1) (subst (λ (t : List MemEntry). AreAllLiteral (ranges_by (dims_at t r.memory) (reach_passed a r u.before).indices)) (sym u.table_is) ranges)
           in
           let found = places_found dims put.made.indices 0 0 at_own in
           let aim = subst (λ (o : Option LiteralPlace). IsAimBut o (aim_width dims) (select_width dims) dims (operand_values put.made.indices) (is_banked r)

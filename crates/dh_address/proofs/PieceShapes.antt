@@ -27,7 +27,7 @@ use Rattle.dh_rows.proofs.Growing.{grows_on, grown_length, adds_on, pushed_adds,
 use Rattle.dh_address.proofs.WaySizes.{HasMaps}
 use Rattle.dh_address.specs.Pieces.{RenumberedBlock, new_or_none, IsRangeTested, false_behind_all, false_word, new_takes, IsProbeValue, IsAccessMade}
 use Rattle.dh_address.specs.Renumbered.{renumbered}
-use Rattle.dh_address.specs.declared.operands.Operand.{Operand}
+use Rattle.dh_address.specs.declared.operands.BlockValue.{BlockValue}
 use Rattle.dh_address.specs.declared.operands.Ranged.{Ranged}
 use Rattle.dh_address.specs.WaysMade.{IsIndexWay, reach_passed}
 use Rattle.dh_address.proofs.WaysPut.{PutsPassed, passed_put}
@@ -183,7 +183,7 @@ module _ (p : PlainPlan) (maps : HasMaps p) (tables : IsProgramTable p.table) (b
     test_quietly r here there test tested begun testable grows = adds_quietly here there (tested_put x 0 r here there test tested begun testable).adds grows
 
     -- before the tests
-    pub passed_at : (r : Reach) → ReachSuits p old_first ks r → AllByRecursion (IsInputOf x 0 a (length old)) (reach_takes r) → (passed : List Operation) (ranges : List Ranged) (indices : List Operand)
+    pub passed_at : (r : Reach) → ReachSuits p old_first ks r → AllByRecursion (IsInputOf x 0 a (length old)) (reach_takes r) → (passed : List Operation) (ranges : List Ranged) (indices : List BlockValue)
         → IsIndexWay passed ranges indices (reach_passed a r old) → PutsPassed x 0 old passed ranges indices
     passed_at r suits taken passed ranges indices e = passed_put x 0 a p maps tables refl r suits old passed ranges indices e at.begun taken
 

@@ -14,7 +14,7 @@ use Rattle.dh_plan.specs.declared.operations.Reach.{Reach}
 use Rattle.dh_rows.specs.Readings.{GrowsPlain, IsPlain, is_plain}
 use Rattle.dh_rows.specs.MadeOperations.{Made, pushed, computed, constant_made, or_zero}
 use Rattle.dh_address.specs.declared.literals.LiteralPlace.{LiteralPlace}
-use Rattle.dh_address.specs.declared.operands.Operand.{Operand}
+use Rattle.dh_address.specs.declared.operands.BlockValue.{BlockValue}
 use Rattle.dh_address.specs.declared.operands.Ranged.{Ranged}
 use Rattle.dh_address.specs.LiteralPlaces.{below_size, literal_places}
 use Rattle.dh_address.specs.Pieces.{RenumberedBlock, IsTestBut, IsRangeTested, both_made, IsGuarded, check_made, AreChecked, false_behind, false_behind_all, false_word, false_made, new_takes, IsProbeValue, IsProbed, IsAim, is_banked, narrowed_bank, IsAimBut, waited, IsAimedReach, IsAccessMade, new_or_none}
@@ -156,11 +156,11 @@ module _ (P : Operation → Type 0) (plain : (o : Operation) → is_plain o.form
   waited_by os None = by_self os
   waited_by os (Some v) = by_pushed os None _ refl
 
-  pub passed_by : (a : RenumberedBlock) (r : Reach) (old passed : List Operation) (ranges : List Ranged) (indices : List Operand) → IsIndexWay passed ranges indices (reach_passed a r old) → GrowsBy P old passed
+  pub passed_by : (a : RenumberedBlock) (r : Reach) (old passed : List Operation) (ranges : List Ranged) (indices : List BlockValue) → IsIndexWay passed ranges indices (reach_passed a r old) → GrowsBy P old passed
   passed_by a r old passed ranges indices e = by_plain old passed (passed_plain a r old passed ranges indices e)
 
   module _ (a : RenumberedBlock) where
-    aimed_by : (r : Reach) (row : Option ℕ) (is : List Operand) (old new : List Operation) (t : Reach) → IsAimedReach a r row is old new t → GrowsBy P old new
+    aimed_by : (r : Reach) (row : Option ℕ) (is : List BlockValue) (old new : List Operation) (t : Reach) → IsAimedReach a r row is old new t → GrowsBy P old new
     aimed_by r None is old new t h =
         by_on old (waited old (new_or_none a r.select)).operations new (waited_by old (new_or_none a r.select))
         (but_aim_by (literal_places _ is 0 0) _ _ _ _ (is_banked r) _ new h.row h.select h.aim)

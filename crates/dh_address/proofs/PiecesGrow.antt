@@ -13,7 +13,7 @@ use Rattle.dh_rows.specs.Readings.{OperationsGrow}
 use Rattle.dh_rows.specs.MadeOperations.{Made, IsMade, pushed, computed, constant_made, or_zero}
 use Rattle.dh_rows.proofs.Growing.{grows_self, grows_on, plain_grows, pushed_grows}
 use Rattle.dh_address.specs.declared.literals.LiteralPlace.{LiteralPlace}
-use Rattle.dh_address.specs.declared.operands.Operand.{Operand}
+use Rattle.dh_address.specs.declared.operands.BlockValue.{BlockValue}
 use Rattle.dh_address.specs.declared.operands.Ranged.{Ranged}
 use Rattle.dh_address.specs.LiteralPlaces.{below_size, literal_places}
 use Rattle.dh_address.specs.Pieces.{RenumberedBlock, IsTestBut, IsRangeTested, both_made, IsGuarded, check_made, AreChecked, false_behind, false_behind_all, false_word, false_made, new_takes, IsProbeValue, IsProbed, IsAim, is_banked, narrowed_bank, IsAimBut, waited, IsAimedReach, IsAccessMade, IsFormMade, IsPiece, new_or_none}
@@ -105,7 +105,7 @@ waited_grows os None = grows_self os
 waited_grows os (Some v) = pushed_grows os None _
 
 module _ (a : RenumberedBlock) where
-  pub aimed_grows : (r : Reach) (row : Option ℕ) (is : List Operand) (old new : List Operation) (t : Reach) → IsAimedReach a r row is old new t → OperationsGrow old new
+  pub aimed_grows : (r : Reach) (row : Option ℕ) (is : List BlockValue) (old new : List Operation) (t : Reach) → IsAimedReach a r row is old new t → OperationsGrow old new
   aimed_grows r None is old new t h =
       grows_on old (waited old (new_or_none a r.select)).operations new (waited_grows old (new_or_none a r.select))
       (but_aim_grows (literal_places _ is 0 0) _ _ _ _ (is_banked r) _ new h.row h.select h.aim)

@@ -14,7 +14,7 @@ use Rattle.dh_plan.specs.PlanKinds.{form_kind}
 use Rattle.dh_rows.specs.Readings.{is_cheap, is_plain}
 use Rattle.dh_rows.specs.MadeOperations.{IsMade, pushed}
 use Rattle.dh_address.specs.Pieces.{RenumberedBlock, IsAimedReach, IsFormMade, IsPiece, new_number, new_or_none}
-use Rattle.dh_address.specs.declared.operands.Operand.{Operand}
+use Rattle.dh_address.specs.declared.operands.BlockValue.{BlockValue}
 use Rattle.dh_address.specs.declared.operands.Ranged.{Ranged}
 use Rattle.dh_address.specs.Images.{and_known, ArePieces}
 use Rattle.dh_address.proofs.PiecesBy.{GrowsBy, AllowsCheck, access_by, probed_by}
@@ -123,7 +123,7 @@ behind f old mid new g h n grows made to same = record {
   part = record { quiet = grows.more; main = record { guard = g; form = h } ∷ []; all = grows.each; joined = refl; image = to (record { own = record { guard = g; form = h }; only = refl; same = same }) };
 }
 
-pub row_aimed : (a : RenumberedBlock) (r : Reach) (row : Option ℕ) (is : List Operand) (old new : List Operation) (t : Reach) → IsAimedReach a r row is old new t → IsRowOf r t
+pub row_aimed : (a : RenumberedBlock) (r : Reach) (row : Option ℕ) (is : List BlockValue) (old new : List Operation) (t : Reach) → IsAimedReach a r row is old new t → IsRowOf r t
 row_aimed a r None is old new t h = subst (λ (u : Reach). IsRowOf r u) (sym h.reach) (record { access = refl; memory = refl; banks = refl; row = h.row; in_row = refl })
 row_aimed a r (Some row) is old new t h = subst (λ (u : Reach). IsRowOf r u) (sym h.1) (record { access = refl; memory = refl; banks = refl; row = new_number a row; in_row = refl })
 

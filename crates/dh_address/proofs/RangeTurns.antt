@@ -5,7 +5,7 @@ use Rattle.std.specs.Prelude.{Option, Some, None, [], ◌∷◌}
 use Rattle.dh_plan.specs.declared.operations.Reach.{Reach}
 use Rattle.dh_plan.specs.declared.operations.Operation.{Operation}
 use Rattle.dh_address.specs.declared.operands.Ranged.{Ranged}
-use Rattle.dh_address.specs.declared.passing.Passed.{Passed}
+use Rattle.dh_address.specs.declared.passing.PassedIndices.{PassedIndices}
 use Rattle.dh_address.specs.Pieces.{RenumberedBlock, IsGuarded, AreChecked, both_made}
 use Rattle.dh_address.specs.SeenAround.{IsGuardedOne, IsCheckedOne, IsReachPassed, IsPassedTo, IsRowPassed}
 use Rattle.dh_address.specs.WaysMade.{IsIndexWay, passed_to}
@@ -41,8 +41,8 @@ module _ (guard : Option ℕ) (fault : ℕ) where
 
 -- Before the tests.
 
-pub passes_row : (a : RenumberedBlock) (r : Reach) (row : ℕ) (list : List Operation) (p : Passed) → r.row ≡ Some row → IsRowPassed a r row p → IsReachPassed a r list list p
+pub passes_row : (a : RenumberedBlock) (r : Reach) (row : ℕ) (list : List Operation) (p : PassedIndices) → r.row ≡ Some row → IsRowPassed a r row p → IsReachPassed a r list list p
 passes_row a r row list p e h = subst (λ (o : Option ℕ). IsIndexWay list p.ranges p.indices (passed_to a r o list)) (sym e) (refl, (h.0, h.1))
 
-pub passes_indices : (a : RenumberedBlock) (r : Reach) (old new : List Operation) (p : Passed) → r.row ≡ None → IsPassedTo a r None old new p → IsReachPassed a r old new p
+pub passes_indices : (a : RenumberedBlock) (r : Reach) (old new : List Operation) (p : PassedIndices) → r.row ≡ None → IsPassedTo a r None old new p → IsReachPassed a r old new p
 passes_indices a r old new p e h = subst (λ (o : Option ℕ). IsPassedTo a r o old new p) (sym e) h

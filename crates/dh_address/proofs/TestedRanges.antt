@@ -13,7 +13,7 @@ use Rattle.dh_plan.specs.declared.operations.OperationForm.TheVariants.{Compute}
 use Rattle.dh_rows.specs.Readings.{Readings, Obeys, IsEarlierValue, OperationsGrow, AddsOperations, IsReadingValue, IsValueOrNone}
 use Rattle.dh_rows.specs.RowsShown.{HoldsOrNone, is_below_size}
 use Rattle.dh_rows.proofs.Growing.{grows_self, grows_on, grown_length, plain_grows, kept_there, pushed_grows, obeys_before, pushed_word, value_later, maybe_later, adds_self, adds_on, pushed_adds, pushed_value}
-use Rattle.dh_address.specs.declared.operands.Operand.{Operand}
+use Rattle.dh_address.specs.declared.operands.BlockValue.{BlockValue}
 use Rattle.dh_address.specs.declared.operands.Ranged.{Ranged}
 use Rattle.dh_address.specs.LiteralPlaces.{below_size}
 use Rattle.dh_address.proofs.ImageReadings.{at_last}
@@ -82,14 +82,14 @@ module _ (x : Readings) (clock : ℕ) where
       two_truths k l e f = subst (λ (m : Kind). AreTruths m l) (sym e) (subst (λ (m : Kind). AreTruths kind.Bool m) (sym f) tt)
 
   -- a value that is there, of an integer kind
-  pub record IsThere (os : List Operation) (o : Operand) : Type 0 where
+  pub record IsThere (os : List Operation) (o : BlockValue) : Type 0 where
     pub sized : IsInteger o.kind
     pub stands : IsReadingValue x clock os o.kind o.value
 
-  pub there_later : (old new : List Operation) → OperationsGrow old new → (o : Operand) → IsThere old o → IsThere new o
+  pub there_later : (old new : List Operation) → OperationsGrow old new → (o : BlockValue) → IsThere old o → IsThere new o
   there_later old new g o h = record { sized = h.sized; stands = value_later x clock old new o.kind o.value g h.stands }
 
-  pub all_there : (old new : List Operation) → OperationsGrow old new → (is : List Operand) → AllByRecursion (IsThere old) is → AllByRecursion (IsThere new) is
+  pub all_there : (old new : List Operation) → OperationsGrow old new → (is : List BlockValue) → AllByRecursion (IsThere old) is → AllByRecursion (IsThere new) is
   all_there old new g [] h = tt
   all_there old new g (i ∷ is) h = (there_later old new g i h.0, all_there old new g is h.1)
 

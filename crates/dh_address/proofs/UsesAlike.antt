@@ -22,7 +22,7 @@ use Rattle.dh_plan.specs.SoundPlans.{access_in, use_in, writes_memory, FormAddre
 use Rattle.dh_plan.specs.SoundRuns.{AreInKinds}
 use Rattle.dh_rows.specs.Readings.{is_plain}
 use Rattle.dh_address.proofs.WaySizes.{HasMaps}
-use Rattle.dh_address.specs.declared.operands.Operand.{Operand}
+use Rattle.dh_address.specs.declared.operands.BlockValue.{BlockValue}
 use Rattle.dh_address.specs.Pieces.{RenumberedBlock, IsAimedReach}
 use Rattle.dh_address.proofs.AccessesLead.{both_true}
 use Rattle.dh_address.proofs.GoodPieces.{AreGoodPieces, StandsInPiece}
@@ -53,11 +53,11 @@ no_use u v t same none e = let two : Some t ≡ None = sym e ∙ (ap (λ (w : Op
 abbrev pub IsSameAccess : (new old : Reach) → Type 0
 IsSameAccess t r = (t.access ≡ r.access) × ((t.memory ≡ r.memory) × (t.banks ≡ r.banks))
 
-aimed_same : (a : RenumberedBlock) (r : Reach) (row : Option ℕ) (is : List Operand) (old last : List Operation) (t : Reach) → IsAimedReach a r row is old last t → IsSameAccess t r
+aimed_same : (a : RenumberedBlock) (r : Reach) (row : Option ℕ) (is : List BlockValue) (old last : List Operation) (t : Reach) → IsAimedReach a r row is old last t → IsSameAccess t r
 aimed_same a r None is old last t h = (ap (λ (u : Reach). u.access) h.reach, (ap (λ (u : Reach). u.memory) h.reach, ap (λ (u : Reach). u.banks) h.reach))
 aimed_same a r (Some row) is old last t h = (ap (λ (u : Reach). u.access) h.1, (ap (λ (u : Reach). u.memory) h.1, ap (λ (u : Reach). u.banks) h.1))
 
-aimed_row : (a : RenumberedBlock) (r : Reach) (row : Option ℕ) (is : List Operand) (old last : List Operation) (t : Reach) → IsAimedReach a r row is old last t → (n : ℕ) × (t.row ≡ Some n)
+aimed_row : (a : RenumberedBlock) (r : Reach) (row : Option ℕ) (is : List BlockValue) (old last : List Operation) (t : Reach) → IsAimedReach a r row is old last t → (n : ℕ) × (t.row ≡ Some n)
 aimed_row a r None is old last t h = (h.row, ap (λ (u : Reach). u.row) h.reach)
 aimed_row a r (Some row) is old last t h = (_, ap (λ (u : Reach). u.row) h.1)
 

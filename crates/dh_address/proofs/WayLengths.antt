@@ -14,7 +14,7 @@ use Rattle.dh_plan.specs.declared.operations.Reach.{Reach}
 use Rattle.dh_plan.specs.declared.operations.ReachStep.{ReachStep}
 use Rattle.dh_plan.specs.PlainPlans.{PlainPlan}
 use Rattle.dh_plan.specs.PlanKinds.{AreSteps, NamesElement, ReachSuits, StepFits}
-use Rattle.dh_address.specs.declared.operands.Operand.{Operand}
+use Rattle.dh_address.specs.declared.operands.BlockValue.{BlockValue}
 use Rattle.dh_address.specs.declared.operands.Ranged.{Ranged}
 use Rattle.dh_address.specs.Arounds.{RenumberedBlock}
 use Rattle.dh_address.specs.WaysMade.{IndexWay, way, IsIndexWay, operand_of, moved_one, moved_all, unit_factors, split_made, dealt_way, passed_by, passed_if, step_passed, steps_passed, way_begun, passed_to, reach_passed}
@@ -26,10 +26,10 @@ mapped_long f [] = refl
 mapped_long f (x ∷ xs) = ap suc (mapped_long f xs)
 
 -- one more index
-moved_one_long : (size factor : ℕ) (e i : Operand) (w : IndexWay) → length (moved_one size factor e i w).indices ≡ length w.indices + 1
+moved_one_long : (size factor : ℕ) (e i : BlockValue) (w : IndexWay) → length (moved_one size factor e i w).indices ≡ length w.indices + 1
 moved_one_long size factor e i w = length-append w.indices _
 
-moved_all_long : (ds : List Dim) (ks : List ℕ) (es is : List Operand) (w : IndexWay) → length ks ≡ length ds → length es ≡ length ds → length is ≡ length ds
+moved_all_long : (ds : List Dim) (ks : List ℕ) (es is : List BlockValue) (w : IndexWay) → length ks ≡ length ds → length es ≡ length ds → length is ≡ length ds
     → length (moved_all ds ks es is w).indices ≡ length w.indices + length ds
 moved_all_long [] ks es is w k e i = omega arith
 moved_all_long (d ∷ ds) [] es is w k e i = absurd (omega (arith, k))
@@ -53,7 +53,7 @@ dims_long sort (v ∷ vs) [] ks h = absurd h
 dims_long sort (v ∷ vs) (p ∷ ps) [] h = absurd h
 dims_long sort (v ∷ vs) (p ∷ ps) (k ∷ ks) h = let more = dims_long sort vs ps ks h.1 in (ap suc more.0, ap suc more.1)
 
-split_long : (vs ps : List Dim) (ks : List ℕ) (is : List Operand) (os : List Operation) (ranges : List Ranged) → AreSplitOf vs ps ks → length is ≡ length vs
+split_long : (vs ps : List Dim) (ks : List ℕ) (is : List BlockValue) (os : List Operation) (ranges : List Ranged) → AreSplitOf vs ps ks → length is ≡ length vs
     → length (dealt_way ranges (split_made vs ps is os)).indices ≡ length ps
 split_long [] ps ks is os ranges h l = absurd h
 split_long (v ∷ []) ps ks is os ranges h l = absurd h
@@ -66,7 +66,7 @@ split_long (v ∷ (w ∷ [])) (p ∷ []) (k ∷ []) [] os ranges h l = absurd (o
 split_long (v ∷ (w ∷ [])) (p ∷ []) (k ∷ []) (a ∷ []) os ranges h l = absurd (omega (arith, l))
 split_long (v ∷ (w ∷ [])) (p ∷ []) (k ∷ []) (a ∷ (b ∷ is)) os ranges h l = refl
 
-pub sort_long : (sort : ViewSort) (v : ViewMap) (es is : List Operand) (os : List Operation) (ranges : List Ranged) → IsShapeOf sort v.shape.dims v.parent.dims v.by
+pub sort_long : (sort : ViewSort) (v : ViewMap) (es is : List BlockValue) (os : List Operation) (ranges : List Ranged) → IsShapeOf sort v.shape.dims v.parent.dims v.by
     → length es ≡ offsets_needed sort v.parent.dims → length is ≡ length v.shape.dims → length (passed_by sort v es is os ranges).indices ≡ length v.parent.dims
 sort_long Shrink v es is os ranges h e i = i ∙ (dims_long Shrink v.shape.dims v.parent.dims v.by h).0
 sort_long Split v es is os ranges h e i = split_long v.shape.dims v.parent.dims v.by is os ranges h i
@@ -102,6 +102,6 @@ module _ (a : RenumberedBlock) (p : PlainPlan) (maps : HasMaps p) (views : a.vie
   to_long r (Some row) old element = tt
 
   -- of what was seen as the way of an access
-  pub passed_long : (r : Reach) → ReachSuits p a.first a.kinds r → (old passed : List Operation) (ranges : List Ranged) (indices : List Operand) → IsIndexWay passed ranges indices (reach_passed a r old)
+  pub passed_long : (r : Reach) → ReachSuits p a.first a.kinds r → (old passed : List Operation) (ranges : List Ranged) (indices : List BlockValue) → IsIndexWay passed ranges indices (reach_passed a r old)
       → HasMany p.table r r.row indices
-  passed_long r suits old passed ranges indices e = subst (λ (is : List Operand). HasMany p.table r r.row is) (sym e.1.1) (to_long r r.row old suits.element)
+  passed_long r suits old passed ranges indices e = subst (λ (is : List BlockValue). HasMany p.table r r.row is) (sym e.1.1) (to_long r r.row old suits.element)

@@ -7,27 +7,27 @@ use Rattle.std.proofs.lemmas.List.{append_assoc, append-nil, map-append}
 use Rattle.dh_plan.specs.declared.operations.ReachStep.{ReachStep}
 use Rattle.dh_plan.specs.Ordered.{offsets_taken}
 use Rattle.dh_tree.specs.declared.tables.Dim.{Dim}
-use Rattle.dh_address.specs.declared.operands.Operand.{Operand}
+use Rattle.dh_address.specs.declared.operands.BlockValue.{BlockValue}
 use Rattle.dh_address.specs.declared.operands.Ranged.{Ranged}
 use Rattle.dh_plan.specs.declared.operations.Operation.{Operation}
 use Rattle.dh_address.specs.WaysMade.{IndexWay, way, IsIndexWay, moved_all, unit_factors, ranges_by}
 
-without_factors : (ds : List Dim) (es is : List Operand) (w : IndexWay) → moved_all ds [] es is w ≡ w
+without_factors : (ds : List Dim) (es is : List BlockValue) (w : IndexWay) → moved_all ds [] es is w ≡ w
 without_factors [] es is w = refl
 without_factors (d ∷ ds) es is w = refl
 
-without_offsets : (ds : List Dim) (ks : List ℕ) (is : List Operand) (w : IndexWay) → moved_all ds ks [] is w ≡ w
+without_offsets : (ds : List Dim) (ks : List ℕ) (is : List BlockValue) (w : IndexWay) → moved_all ds ks [] is w ≡ w
 without_offsets [] ks is w = refl
 without_offsets (d ∷ ds) [] is w = refl
 without_offsets (d ∷ ds) (k ∷ ks) is w = refl
 
-without_indices : (ds : List Dim) (ks : List ℕ) (es : List Operand) (w : IndexWay) → moved_all ds ks es [] w ≡ w
+without_indices : (ds : List Dim) (ks : List ℕ) (es : List BlockValue) (w : IndexWay) → moved_all ds ks es [] w ≡ w
 without_indices [] ks es w = refl
 without_indices (d ∷ ds) [] es w = refl
 without_indices (d ∷ ds) (k ∷ ks) [] w = refl
 without_indices (d ∷ ds) (k ∷ ks) (e ∷ es) w = refl
 
-pub moved_end : (ds : List Dim) (ks : List ℕ) (es is : List Operand) (n : ℕ) (w : IndexWay) → min (min (min (length ds) (length ks)) (length es)) (length is) ≤ n
+pub moved_end : (ds : List Dim) (ks : List ℕ) (es is : List BlockValue) (n : ℕ) (w : IndexWay) → min (min (min (length ds) (length ks)) (length es)) (length is) ≤ n
     → moved_all (drop n ds) (drop n ks) (drop n es) (drop n is) w ≡ w
 moved_end [] ks es is zero w l = refl
 moved_end [] ks es is (suc n) w l = refl
@@ -40,14 +40,14 @@ moved_end (d ∷ ds) (k ∷ ks) (e ∷ es) [] (suc n) w l = without_indices (dro
 moved_end (d ∷ ds) (k ∷ ks) (e ∷ es) (i ∷ is) zero w l = absurd (omega (arith, l))
 moved_end (d ∷ ds) (k ∷ ks) (e ∷ es) (i ∷ is) (suc n) w l = moved_end ds ks es is n w (omega (arith, l))
 
-pub moved_ended : (ds : List Dim) (ks : List ℕ) (es is : List Operand) (n : ℕ) (os : List Operation) (ranges : List Ranged) (moved : List Operand) (whole : IndexWay)
+pub moved_ended : (ds : List Dim) (ks : List ℕ) (es is : List BlockValue) (n : ℕ) (os : List Operation) (ranges : List Ranged) (moved : List BlockValue) (whole : IndexWay)
     → min (min (min (length ds) (length ks)) (length es)) (length is) ≤ n → moved_all (drop n ds) (drop n ks) (drop n es) (drop n is) (way os ranges moved) ≡ whole → IsIndexWay os ranges moved whole
 moved_ended ds ks es is n os ranges moved whole l so = (ap (λ (w : IndexWay). w.operations) same, (ap (λ (w : IndexWay). w.ranges) same, ap (λ (w : IndexWay). w.indices) same))
   where
     same : way os ranges moved ≡ whole
     same = sym (moved_end ds ks es is n (way os ranges moved) l) ∙ so
 
-pub ranges_done : (ds : List Dim) (is : List Operand) (n : ℕ) → min (length ds) (length is) ≤ n → ranges_by (drop n ds) (drop n is) ≡ []
+pub ranges_done : (ds : List Dim) (is : List BlockValue) (n : ℕ) → min (length ds) (length is) ≤ n → ranges_by (drop n ds) (drop n is) ≡ []
 ranges_done [] is zero l = refl
 ranges_done [] is (suc n) l = refl
 ranges_done (d ∷ ds) [] zero l = refl
@@ -59,7 +59,7 @@ ranges_done (d ∷ ds) [] (suc n) l = none (drop n ds)
 ranges_done (d ∷ ds) (i ∷ is) zero l = absurd (omega (arith, l))
 ranges_done (d ∷ ds) (i ∷ is) (suc n) l = ranges_done ds is n (omega (arith, l))
 
-pub ranges_ended : (ds : List Dim) (is : List Operand) (n : ℕ) (so_far whole : List Ranged) → min (length ds) (length is) ≤ n → so_far ++ ranges_by (drop n ds) (drop n is) ≡ whole → so_far ≡ whole
+pub ranges_ended : (ds : List Dim) (is : List BlockValue) (n : ℕ) (so_far whole : List Ranged) → min (length ds) (length is) ≤ n → so_far ++ ranges_by (drop n ds) (drop n is) ≡ whole → so_far ≡ whole
 ranges_ended ds is n so_far whole l so = sym (append-nil so_far) ∙ (ap (λ (rs : List Ranged). so_far ++ rs) (sym (ranges_done ds is n l)) ∙ so)
 
 -- one view more

@@ -20,7 +20,7 @@ use Rattle.dh_plan.specs.PlanKinds.{AreSteps, StepFits}
 use Rattle.dh_rows.specs.Readings.{Readings, Obeys}
 use Rattle.dh_rows.specs.RowsShown.{is_small}
 use Rattle.dh_rows.proofs.Growing.{plain_grows, obeys_plain}
-use Rattle.dh_address.specs.declared.operands.Operand.{Operand}
+use Rattle.dh_address.specs.declared.operands.BlockValue.{BlockValue}
 use Rattle.dh_address.specs.declared.operands.Ranged.{Ranged}
 use Rattle.dh_address.specs.Arounds.{RenumberedBlock}
 use Rattle.dh_address.specs.WaysMade.{IndexWay, way, PlacedOperand, moved_operand, operand_of, ranges_by, offset_bounded, moved_one, moved_all, maybe_range, unit_factors, split_made, dealt_way, passed_by, passed_if, step_passed, steps_passed, with_ranges}
@@ -88,9 +88,9 @@ ones_sums (d ∷ ds) (e ∷ es) (i ∷ is) l =
 
 module _ (x : Readings) where
   -- Of a view that moves: what is to be in range of its offsets, and the indices that come behind others.
-  pub record ShowsAll (ds : List Dim) (is : List Operand) (iz zs : List ℤ) (w after : IndexWay) : Type 0 where
+  pub record ShowsAll (ds : List Dim) (is : List BlockValue) (iz zs : List ℤ) (w after : IndexWay) : Type 0 where
     pub ranges : List Ranged
-    pub more : List Operand
+    pub more : List BlockValue
     pub ranges_are : after.ranges ≡ w.ranges ++ ranges
     pub indices_are : after.indices ≡ w.indices ++ more
     pub ranges_seen : RangesSeen x ranges
@@ -100,14 +100,14 @@ module _ (x : Readings) where
     pub outside : AreFor x ds is iz → is_inside ds iz ≡ true → all_in x ranges ≡ false → is_inside ds zs ≡ false
 
   -- one dimension more, before the others
-  one_more : (d : Dim) (ds : List Dim) (k : ℕ) (i : Operand) (is : List Operand) (y z : ℤ) (iz zs : List ℤ) → 1 ≤ k → (here : List Ranged) (m : PlacedOperand) (w next after : IndexWay) → next.ranges ≡ w.ranges ++ here
+  one_more : (d : Dim) (ds : List Dim) (k : ℕ) (i : BlockValue) (is : List BlockValue) (y z : ℤ) (iz zs : List ℤ) → 1 ≤ k → (here : List Ranged) (m : PlacedOperand) (w next after : IndexWay) → next.ranges ≡ w.ranges ++ here
       → next.indices ≡ w.indices ++ m.operand ∷ [] → ShowsRange x here (is_small y ((d.size - 1) / k)) → ShowsMoved x d.size k m y z i → ShowsAll ds is iz zs next after
       → ShowsAll (d ∷ ds) (i ∷ is) (z ∷ iz) (((pos k *ℤ y) +ℤ z) ∷ zs) w after
   one_more d ds k i is y z iz zs some here m w next after ranges_next indices_next range index rest = record {
     ranges = here ++ rest.ranges;
     more = m.operand ∷ rest.more;
     ranges_are = rest.ranges_are ∙ (ap (λ (rs : List Ranged). rs ++ rest.ranges) ranges_next ∙ append_assoc w.ranges here rest.ranges);
-    indices_are = rest.indices_are ∙ (ap (λ (l : List Operand). l ++ rest.more) indices_next ∙ append_assoc w.indices (m.operand ∷ []) rest.more);
+    indices_are = rest.indices_are ∙ (ap (λ (l : List BlockValue). l ++ rest.more) indices_next ∙ append_assoc w.indices (m.operand ∷ []) rest.more);
     ranges_seen = all_join (λ r. IsSeen x r.operand) here rest.ranges range.seen rest.ranges_seen;
     more_seen = (index.seen, rest.more_seen);
     long = ap suc rest.long;
@@ -123,7 +123,7 @@ module _ (x : Readings) where
       tested : all_in x (here ++ rest.ranges) ≡ (is_small y ((d.size - 1) / k) && all_in x rest.ranges)
       tested = all_in_join x here rest.ranges ∙ ap (λ (b : Bool). b && all_in x rest.ranges) range.test
 
-  pub moved_all_shown : (ds : List Dim) (ks : List ℕ) (es is : List Operand) (ez iz : List ℤ) (w : IndexWay) → AreFew ds → AreFactors ks → length ks ≡ length ds → length es ≡ length ds → length is ≡ length ds
+  pub moved_all_shown : (ds : List Dim) (ks : List ℕ) (es is : List BlockValue) (ez iz : List ℤ) (w : IndexWay) → AreFew ds → AreFactors ks → length ks ≡ length ds → length es ≡ length ds → length is ≡ length ds
       → length iz ≡ length ds → AreSeen x es → AreSeen x is → AreValues x es ez → x.first ≤ length w.operations → Obeys x (moved_all ds ks es is w).operations
       → ShowsAll ds is iz (sums (multiples ks ez) iz) w (moved_all ds ks es is w)
   moved_all_shown [] [] [] [] [] [] w few some kl el il zl es_seen is_seen values begun obeys = record {
@@ -159,7 +159,7 @@ module _ (x : Readings) where
 
   -- Of any view.
 
-  pub record ShowsView (v : ViewMap) (is : List Operand) (iz zs : List ℤ) (tested : List Ranged) (after : IndexWay) : Type 0 where
+  pub record ShowsView (v : ViewMap) (is : List BlockValue) (iz zs : List ℤ) (tested : List Ranged) (after : IndexWay) : Type 0 where
     pub ranges : List Ranged
     pub ranges_are : after.ranges ≡ tested ++ ranges
     pub ranges_seen : RangesSeen x ranges
@@ -168,7 +168,7 @@ module _ (x : Readings) where
     pub inside : AreFor x v.shape.dims is iz → is_inside v.shape.dims iz ≡ true → all_in x ranges ≡ true → AreFor x v.parent.dims after.indices zs
     pub outside : AreFor x v.shape.dims is iz → is_inside v.shape.dims iz ≡ true → all_in x ranges ≡ false → is_inside v.parent.dims zs ≡ false
 
-  shrunk_for : (vs ps : List Dim) (ks : List ℕ) (is : List Operand) (iz : List ℤ) → AreDimsOf Shrink vs ps ks → AreFor x vs is iz → AreFor x ps is iz
+  shrunk_for : (vs ps : List Dim) (ks : List ℕ) (is : List BlockValue) (iz : List ℤ) → AreDimsOf Shrink vs ps ks → AreFor x vs is iz → AreFor x ps is iz
   shrunk_for [] [] [] is iz h f = f
   shrunk_for [] [] (k ∷ ks) is iz h f = absurd h
   shrunk_for [] (p ∷ ps) ks is iz h f = absurd h
@@ -178,7 +178,7 @@ module _ (x : Readings) where
   shrunk_for (v ∷ vs) (p ∷ ps) (k ∷ ks) (i ∷ is) [] h f = absurd f
   shrunk_for (v ∷ vs) (p ∷ ps) (k ∷ ks) (i ∷ is) (z ∷ iz) h f = (subst (λ n. StandsFor x n i z) h.0.0 f.0, shrunk_for vs ps ks is iz h.1 f.1)
 
-  no_more : (v : ViewMap) (is : List Operand) (iz zs : List ℤ) (tested : List Ranged) (after : IndexWay) → after.ranges ≡ tested → AreSeen x after.indices → length zs ≡ length v.parent.dims
+  no_more : (v : ViewMap) (is : List BlockValue) (iz zs : List ℤ) (tested : List Ranged) (after : IndexWay) → after.ranges ≡ tested → AreSeen x after.indices → length zs ≡ length v.parent.dims
       → (AreFor x v.shape.dims is iz → is_inside v.shape.dims iz ≡ true → AreFor x v.parent.dims after.indices zs) → ShowsView v is iz zs tested after
   no_more v is iz zs tested after same seen long so = record {
     ranges = [];
@@ -190,27 +190,27 @@ module _ (x : Readings) where
     outside = λ f i a. absurd (cc);
   }
 
-  moving : (v : ViewMap) (is : List Operand) (iz zs : List ℤ) (tested : List Ranged) (os : List Operation) (after : IndexWay) → v.shape.dims ≡ v.parent.dims → ShowsAll v.parent.dims is iz zs (way os tested []) after
+  moving : (v : ViewMap) (is : List BlockValue) (iz zs : List ℤ) (tested : List Ranged) (os : List Operation) (after : IndexWay) → v.shape.dims ≡ v.parent.dims → ShowsAll v.parent.dims is iz zs (way os tested []) after
       → ShowsView v is iz zs tested after
   moving v is iz zs tested os after same m = record {
     ranges = m.ranges;
     ranges_are = m.ranges_are;
     ranges_seen = m.ranges_seen;
-    indices_seen = subst (λ (l : List Operand). AreSeen x l) (sym m.indices_are) m.more_seen;
+    indices_seen = subst (λ (l : List BlockValue). AreSeen x l) (sym m.indices_are) m.more_seen;
     long = m.long;
     inside = λ f i a.
-        subst (λ (l : List Operand). AreFor x v.parent.dims l zs) (sym m.indices_are)
+        subst (λ (l : List BlockValue). AreFor x v.parent.dims l zs) (sym m.indices_are)
         (m.inside (subst (λ (ds : List Dim). AreFor x ds is iz) same f) (subst (λ (ds : List Dim). is_inside ds iz ≡ true) same i) a);
     outside = λ f i a. m.outside (subst (λ (ds : List Dim). AreFor x ds is iz) same f) (subst (λ (ds : List Dim). is_inside ds iz ≡ true) same i) a;
   }
 
   -- of a split
-  pub record ShowsSplit (vs ps : List Dim) (by : List ℕ) (is : List Operand) (iz : List ℤ) (after : List Operand) : Type 0 where
+  pub record ShowsSplit (vs ps : List Dim) (by : List ℕ) (is : List BlockValue) (iz : List ℤ) (after : List BlockValue) : Type 0 where
     pub seen : AreSeen x after
     pub long : length (split_index (first_banks ps) (slice_index by 0) iz) ≡ length ps
     pub inside : AreFor x vs is iz → is_inside vs iz ≡ true → AreFor x ps after (split_index (first_banks ps) (slice_index by 0) iz)
 
-  split_shown : (vs ps : List Dim) (ks : List ℕ) (is : List Operand) (iz : List ℤ) (os : List Operation) → AreSplitOf vs ps ks → AreFew vs → AreFew ps → length is ≡ length vs → length iz ≡ length vs → AreSeen x is
+  split_shown : (vs ps : List Dim) (ks : List ℕ) (is : List BlockValue) (iz : List ℤ) (os : List Operation) → AreSplitOf vs ps ks → AreFew vs → AreFew ps → length is ≡ length vs → length iz ≡ length vs → AreSeen x is
       → x.first ≤ length os → Obeys x (split_made vs ps is os).operations → ShowsSplit vs ps ks is iz (split_made vs ps is os).indices
   split_shown [] ps ks is iz os h own few il zl seen begun obeys = absurd h
   split_shown (v ∷ []) ps ks is iz os h own few il zl seen begun obeys = absurd h
@@ -235,7 +235,7 @@ module _ (x : Readings) where
             (m.stands f.0 f.1.0 one.0 two.0, tt));
       }
 
-  sort_shown : (sort : ViewSort) (v : ViewMap) (es is : List Operand) (ez iz : List ℤ) (os : List Operation) (tested : List Ranged) → IsShapeOf sort v.shape.dims v.parent.dims v.by → AreFew v.shape.dims → AreFew v.parent.dims
+  sort_shown : (sort : ViewSort) (v : ViewMap) (es is : List BlockValue) (ez iz : List ℤ) (os : List Operation) (tested : List Ranged) → IsShapeOf sort v.shape.dims v.parent.dims v.by → AreFew v.shape.dims → AreFew v.parent.dims
       → length es ≡ offsets_needed sort v.parent.dims → length is ≡ length v.shape.dims → length iz ≡ length v.shape.dims → AreSeen x es → AreSeen x is → AreValues x es ez → x.first ≤ length os
       → Obeys x (passed_by sort v es is os tested).operations → ShowsView v is iz (parent_index sort (first_banks v.parent.dims) v.by ez iz) tested (passed_by sort v es is os tested)
   sort_shown Shrink v es is ez iz os tested h own few el il zl es_seen is_seen values begun obeys =
@@ -254,13 +254,13 @@ module _ (x : Readings) where
       subst (λ (zs : List ℤ). ShowsView v is iz zs tested (moved_all v.parent.dims (unit_factors v.parent.dims) es is (way os tested []))) (ones_sums v.parent.dims ez iz (sym (values_long es ez values) ∙ el))
       (moving v is iz _ tested os _ h.0 m)
     where
-      values_long : (os : List Operand) (zs : List ℤ) → AreValues x os zs → length os ≡ length zs
+      values_long : (os : List BlockValue) (zs : List ℤ) → AreValues x os zs → length os ≡ length zs
       values_long [] [] h = refl
       values_long [] (z ∷ zs) h = absurd h
       values_long (o ∷ os) [] h = absurd h
       values_long (o ∷ os) (z ∷ zs) h = ap suc (values_long os zs h.1)
 
-  pub view_shown : (v : ViewMap) (es : List Operand) (ez iz : List ℤ) (w : IndexWay) → IsViewMap v → AreFew v.shape.dims → AreFew v.parent.dims → length es ≡ offsets_needed v.sort v.parent.dims
+  pub view_shown : (v : ViewMap) (es : List BlockValue) (ez iz : List ℤ) (w : IndexWay) → IsViewMap v → AreFew v.shape.dims → AreFew v.parent.dims → length es ≡ offsets_needed v.sort v.parent.dims
       → length w.indices ≡ length v.shape.dims → length iz ≡ length v.shape.dims → AreSeen x es → AreSeen x w.indices → AreValues x es ez → x.first ≤ length w.operations
       → Obeys x (passed_if (Some v) es w).operations
       → ShowsView v w.indices iz (named_by v ez iz) (w.ranges ++ ranges_by v.shape.dims w.indices) (passed_if (Some v) es w)

@@ -30,7 +30,7 @@ use Rattle.dh_rows.proofs.PutSpread.{FitsWidth}
 use Rattle.dh_rows.proofs.MovedPut.{makes_moved, makes_dealt, makes_spanned}
 use Rattle.dh_rows.proofs.SpannedOffsets.{width_moves}
 use Rattle.dh_rows.proofs.DealtIndices.{dealt_small}
-use Rattle.dh_address.specs.declared.operands.Operand.{Operand}
+use Rattle.dh_address.specs.declared.operands.BlockValue.{BlockValue}
 use Rattle.dh_address.specs.declared.operands.Ranged.{Ranged}
 use Rattle.dh_address.specs.LiteralPlaces.{below_size}
 use Rattle.dh_address.specs.Arounds.{RenumberedBlock}
@@ -103,7 +103,7 @@ moved_below (Some a) (Some i) factor size n e =
 
 module _ (x : Readings) (clock : ℕ) where
   -- plain operations, what is to be in range, and indices
-  pub record PutsPassed (old new : List Operation) (tested : List Ranged) (inner : List Operand) : Type 0 where
+  pub record PutsPassed (old new : List Operation) (tested : List Ranged) (inner : List BlockValue) : Type 0 where
     pub adds : AddsOperations x clock old new
     pub ranges : AllByRecursion (IsTestable x clock new) tested
     pub indices : AllByRecursion (IsThere x clock new) inner
@@ -121,13 +121,13 @@ module _ (x : Readings) (clock : ℕ) where
   span_there os None h = tt
   span_there os (Some s) h = (record { sized = h.0; stands = h.1 }, tt)
 
-  bounded_put : (near : Bool) (os : List Operation) (e : Operand) (bound : ℕ) → x.first ≤ length os → IsThere x clock os e → PutsBounded os (bounded_unless near os e bound)
+  bounded_put : (near : Bool) (os : List Operation) (e : BlockValue) (bound : ℕ) → x.first ≤ length os → IsThere x clock os e → PutsBounded os (bounded_unless near os e bound)
   bounded_put false os e bound begun t =
       let m = makes_spanned x clock e.kind os begun e.value bound t.sized t.stands in
       record { adds = m.adds; range = span_there (spanned os e.kind e.value bound).operations (spanned os e.kind e.value bound).span m.span }
   bounded_put true os e bound begun t = record { adds = adds_self x clock os; range = tt }
 
-  pub offset_put : (os : List Operation) (e : Operand) (bound : ℕ) → x.first ≤ length os → IsThere x clock os e → PutsBounded os (offset_bounded os e bound)
+  pub offset_put : (os : List Operation) (e : BlockValue) (bound : ℕ) → x.first ≤ length os → IsThere x clock os e → PutsBounded os (offset_bounded os e bound)
   offset_put os e bound begun t = bounded_put (is_near e.whole bound) os e bound begun t
 
   -- Indices.
@@ -142,14 +142,14 @@ module _ (x : Readings) (clock : ℕ) where
   placed_put (Some n) os width m begun sized small h =
       let c = makes_constant x clock os begun width n sized (small n refl) in record { adds = c.adds; there = record { sized = sized; stands = c.value } }
 
-  pub moved_put : (os : List Operation) (size factor : ℕ) (e i : Operand) → x.first ≤ length os → size < 2 ^ 60 → IsThere x clock os e → IsThere x clock os i → PutsPlaced os (moved_operand os size factor e i)
+  pub moved_put : (os : List Operation) (size factor : ℕ) (e i : BlockValue) → x.first ≤ length os → size < 2 ^ 60 → IsThere x clock os e → IsThere x clock os i → PutsPlaced os (moved_operand os size factor e i)
   moved_put os size factor e i begun few g h =
       let w = width_moves size few in
       placed_put (moved_literal e.whole i.literal factor size) os (moved_width size) (moved os (moved_width size) (min factor size) e.value i.value) begun w.0
       (λ n l. (let b = moved_below e.whole i.literal factor size n l in let m = w.1 in omega (arith, b, m)))
       (makes_moved x clock (moved_width size) w.0 os begun (min factor size) e.value i.value (λ o. (g.stands o).earlier) (λ o. (h.stands o).earlier))
 
-  pub dealt_put : (os : List Operation) (size copies : ℕ) (part : Dim) (a b : Operand) → x.first ≤ length os → size < 2 ^ 60 → IsFew part → IsDealtTo copies part size → IsThere x clock os a → IsThere x clock os b
+  pub dealt_put : (os : List Operation) (size copies : ℕ) (part : Dim) (a b : BlockValue) → x.first ≤ length os → size < 2 ^ 60 → IsFew part → IsDealtTo copies part size → IsThere x clock os a → IsThere x clock os b
       → PutsPlaced os (dealt_operand os size copies part a b)
   dealt_put os size copies part a b begun few own d g h =
       let w = width_moves size few in
@@ -173,7 +173,7 @@ module _ (x : Readings) (clock : ℕ) where
 
   -- Of a view that moves.
 
-  pub moved_one_put : (old : List Operation) (size factor : ℕ) (e i : Operand) (w : IndexWay) → x.first ≤ length old → size < 2 ^ 60 → PutsWay old w → IsThere x clock w.operations e → IsThere x clock w.operations i
+  pub moved_one_put : (old : List Operation) (size factor : ℕ) (e i : BlockValue) (w : IndexWay) → x.first ≤ length old → size < 2 ^ 60 → PutsWay old w → IsThere x clock w.operations e → IsThere x clock w.operations i
       → PutsWay old (moved_one size factor e i w)
   moved_one_put old size factor e i w begun few h g k =
       let b = offset_bounded w.operations e ((size - 1) / factor) in
@@ -190,7 +190,7 @@ module _ (x : Readings) (clock : ℕ) where
         indices = all_join (IsThere x clock m.operations) w.indices (m.operand ∷ []) (all_there x clock w.operations m.operations far w.indices h.indices) (two.there, tt);
       }
 
-  pub moved_all_put : (old : List Operation) (ds : List Dim) (ks : List ℕ) (es is : List Operand) (w : IndexWay) → x.first ≤ length old → AreFew ds → PutsWay old w → AllByRecursion (IsThere x clock w.operations) es
+  pub moved_all_put : (old : List Operation) (ds : List Dim) (ks : List ℕ) (es is : List BlockValue) (w : IndexWay) → x.first ≤ length old → AreFew ds → PutsWay old w → AllByRecursion (IsThere x clock w.operations) es
       → AllByRecursion (IsThere x clock w.operations) is → PutsWay old (moved_all ds ks es is w)
   moved_all_put old [] ks es is w begun few h g k = h
   moved_all_put old (d ∷ ds) [] es is w begun few h g k = h
@@ -204,7 +204,7 @@ module _ (x : Readings) (clock : ℕ) where
 
   -- Of any view.
 
-  split_put : (old : List Operation) (vs ps : List Dim) (ks : List ℕ) (is : List Operand) (os : List Operation) (ranges : List Ranged) → x.first ≤ length os → AreSplitOf vs ps ks → AreFew vs → AreFew ps
+  split_put : (old : List Operation) (vs ps : List Dim) (ks : List ℕ) (is : List BlockValue) (os : List Operation) (ranges : List Ranged) → x.first ≤ length os → AreSplitOf vs ps ks → AreFew vs → AreFew ps
       → PutsWay old (way os ranges is) → PutsWay old (dealt_way ranges (split_made vs ps is os))
   split_put old [] ps ks is os ranges begun s own few h = absurd s
   split_put old (v ∷ []) ps ks is os ranges begun s own few h = absurd s
@@ -220,7 +220,7 @@ module _ (x : Readings) (clock : ℕ) where
       let one = dealt_put os p.size v.size w a b begun few.0.small own.1.0 (dealt_to v w p k s own.1.0.dim.size) h.indices.0 h.indices.1.0 in
       record { adds = adds_on x clock old os m.operations h.adds one.adds; ranges = testable_later x clock os m.operations one.adds.grows ranges h.ranges; indices = (one.there, tt) }
 
-  sort_put : (sort : ViewSort) (v : ViewMap) (old : List Operation) (es is : List Operand) (os : List Operation) (ranges : List Ranged) → x.first ≤ length old → IsShapeOf sort v.shape.dims v.parent.dims v.by
+  sort_put : (sort : ViewSort) (v : ViewMap) (old : List Operation) (es is : List BlockValue) (os : List Operation) (ranges : List Ranged) → x.first ≤ length old → IsShapeOf sort v.shape.dims v.parent.dims v.by
       → AreFew v.shape.dims → AreFew v.parent.dims → PutsWay old (way os ranges is) → AllByRecursion (IsThere x clock os) es → PutsWay old (passed_by sort v es is os ranges)
   sort_put Shrink v old es is os ranges begun s own few h g = h
   sort_put Split v old es is os ranges begun s own few h g = split_put old v.shape.dims v.parent.dims v.by is os ranges (begun_later x old os h.adds.grows begun) s own few h
@@ -229,12 +229,12 @@ module _ (x : Readings) (clock : ℕ) where
   sort_put Shift v old es is os ranges begun s own few h g =
       moved_all_put old v.parent.dims (unit_factors v.parent.dims) es is (way os ranges []) begun few (record { adds = h.adds; ranges = h.ranges; indices = tt }) g h.indices
 
-  pub ranges_there : (os : List Operation) (dims : List Dim) (is : List Operand) → AllByRecursion (IsThere x clock os) is → AllByRecursion (IsTestable x clock os) (ranges_by dims is)
+  pub ranges_there : (os : List Operation) (dims : List Dim) (is : List BlockValue) → AllByRecursion (IsThere x clock os) is → AllByRecursion (IsTestable x clock os) (ranges_by dims is)
   ranges_there os [] is h = tt
   ranges_there os (d ∷ ds) [] h = tt
   ranges_there os (d ∷ ds) (i ∷ is) h = (h.0, ranges_there os ds is h.1)
 
-  pub view_put : (v : ViewMap) (old : List Operation) (es : List Operand) (w : IndexWay) → x.first ≤ length old → IsViewMap v → AreFew v.shape.dims → AreFew v.parent.dims → PutsWay old w
+  pub view_put : (v : ViewMap) (old : List Operation) (es : List BlockValue) (w : IndexWay) → x.first ≤ length old → IsViewMap v → AreFew v.shape.dims → AreFew v.parent.dims → PutsWay old w
       → AllByRecursion (IsThere x clock w.operations) es → PutsWay old (passed_if (Some v) es w)
   view_put v old es w begun map own few h g =
       sort_put v.sort v old es w.indices w.operations (w.ranges ++ ranges_by v.shape.dims w.indices) begun map.shape own few (record {
@@ -298,7 +298,7 @@ module _ (x : Readings) (clock : ℕ) where
         (all_left P r.indices _ taken) (all_left P (offsets_taken r.steps) _ behind) (all_right P (one_or_none r.select) (one_or_none r.row) last)
 
     -- of what was seen as the way of an access
-    pub passed_put : (r : Reach) → ReachSuits p a.first a.kinds r → (old passed : List Operation) (ranges : List Ranged) (indices : List Operand) → IsIndexWay passed ranges indices (reach_passed a r old)
+    pub passed_put : (r : Reach) → ReachSuits p a.first a.kinds r → (old passed : List Operation) (ranges : List Ranged) (indices : List BlockValue) → IsIndexWay passed ranges indices (reach_passed a r old)
         → x.first ≤ length old → AllByRecursion (IsInputOf x clock a (length old)) (reach_takes r) → PutsPassed old passed ranges indices
     passed_put r suits old passed ranges indices e begun taken =
         way_as (λ os rs is. PutsPassed old os rs is) passed ranges indices (reach_passed a r old) e (reach_put r suits old begun taken)

@@ -28,7 +28,7 @@ use Rattle.dh_rows.proofs.PutSpread.{FitsWidth}
 use Rattle.dh_rows.proofs.WrappedSums.{moved_shows}
 use Rattle.dh_rows.proofs.SpannedOffsets.{moved_range, width_moves, spanned_tells}
 use Rattle.dh_rows.proofs.DealtIndices.{dealt_small, dealt_shows, dealt_cuts}
-use Rattle.dh_address.specs.declared.operands.Operand.{Operand}
+use Rattle.dh_address.specs.declared.operands.BlockValue.{BlockValue}
 use Rattle.dh_address.specs.declared.operands.Ranged.{Ranged}
 use Rattle.dh_address.specs.LiteralPlaces.{below_size}
 use Rattle.dh_address.specs.WaysMade.{IndexWay, PlacedOperand, span_range, is_near, bounded_unless, offset_bounded, placed_as, made_or, index_moved, word_steps, steps_by, moved_literal, moved_operand, moved_one, maybe_range, dealt_literal, dealt_operand, ranges_by}
@@ -169,14 +169,14 @@ true_or_false e = absurd (cc)
 
 module _ (x : Readings) where
   -- an operand shows a word of its kind, and what it is where it is a constant
-  pub record IsSeen (o : Operand) : Type 0 where
+  pub record IsSeen (o : BlockValue) : Type 0 where
     pub sized : IsInteger o.kind
     pub word : IsWord (x.word o.value)
     pub kind_is : (x.word o.value).kind ≡ o.kind
     pub literal : (n : ℕ) → o.literal ≡ Some n → value_of (x.word o.value) ≡ pos n
     pub whole : (z : ℤ) → o.whole ≡ Some z → value_of (x.word o.value) ≡ z
 
-  abbrev pub AreSeen : List Operand → Type 0
+  abbrev pub AreSeen : List BlockValue → Type 0
   AreSeen os = AllByRecursion IsSeen os
 
   abbrev pub RangesSeen : List Ranged → Type 0
@@ -194,22 +194,22 @@ module _ (x : Readings) where
       within n e = let b = below_means r.operand.literal r.size n e in ap (λ z. is_below_size z r.size) (h.0.literal n b.0) ∙ (natural_range n r.size ∙ less n r.size b.1)
 
   -- for a dimension of this size it stands for a whole number
-  pub record StandsFor (size : ℕ) (o : Operand) (z : ℤ) : Type 0 where
+  pub record StandsFor (size : ℕ) (o : BlockValue) (z : ℤ) : Type 0 where
     pub test : is_below_size (value_of (x.word o.value)) size ≡ is_index size z
     pub exact : is_index size z ≡ true → value_of (x.word o.value) ≡ z
 
-  abbrev pub AreFor : List Dim → List Operand → List ℤ → Type 0
+  abbrev pub AreFor : List Dim → List BlockValue → List ℤ → Type 0
   AreFor [] [] [] = Unit {0}
   AreFor (d ∷ ds) (o ∷ os) (z ∷ zs) = StandsFor d.size o z × AreFor ds os zs
   AreFor _ _ _ = ⊥
 
   -- operands show these whole numbers
-  abbrev pub AreValues : List Operand → List ℤ → Type 0
+  abbrev pub AreValues : List BlockValue → List ℤ → Type 0
   AreValues [] [] = Unit {0}
   AreValues (o ∷ os) (z ∷ zs) = (value_of (x.word o.value) ≡ z) × AreValues os zs
   AreValues _ _ = ⊥
 
-  pub values_for : (ds : List Dim) (os : List Operand) (zs : List ℤ) → AreValues os zs → length os ≡ length ds → AreFor ds os zs
+  pub values_for : (ds : List Dim) (os : List BlockValue) (zs : List ℤ) → AreValues os zs → length os ≡ length ds → AreFor ds os zs
   values_for [] [] [] h l = tt
   values_for [] [] (z ∷ zs) h l = absurd h
   values_for [] (o ∷ os) zs h l = absurd (omega (arith, l))
@@ -217,7 +217,7 @@ module _ (x : Readings) where
   values_for (d ∷ ds) (o ∷ os) [] h l = absurd h
   values_for (d ∷ ds) (o ∷ os) (z ∷ zs) h l = (record { test = ap (λ y. is_below_size y d.size) h.0; exact = λ e. h.0 }, values_for ds os zs h.1 (omega (arith, l)))
 
-  pub all_in_for : (ds : List Dim) (os : List Operand) (zs : List ℤ) → AreFor ds os zs → all_in x (ranges_by ds os) ≡ is_inside ds zs
+  pub all_in_for : (ds : List Dim) (os : List BlockValue) (zs : List ℤ) → AreFor ds os zs → all_in x (ranges_by ds os) ≡ is_inside ds zs
   all_in_for [] [] [] h = refl
   all_in_for [] [] (z ∷ zs) h = absurd h
   all_in_for [] (o ∷ os) zs h = absurd h
@@ -234,7 +234,7 @@ module _ (x : Readings) where
       and_three true b c = refl
       and_three false b c = refl
 
-  pub ranges_seen : (ds : List Dim) (os : List Operand) → AreSeen os → RangesSeen (ranges_by ds os)
+  pub ranges_seen : (ds : List Dim) (os : List BlockValue) → AreSeen os → RangesSeen (ranges_by ds os)
   ranges_seen [] os h = tt
   ranges_seen (d ∷ ds) [] h = tt
   ranges_seen (d ∷ ds) (o ∷ os) h = (h.0, ranges_seen ds os h.1)
@@ -283,7 +283,7 @@ module _ (x : Readings) where
       never : (n : ℕ) → None ≡ Some n → ⊥
       never n e = cc
 
-  bounded_shows : (near : Bool) (os : List Operation) (e : Operand) (bound : ℕ) → is_near e.whole bound ≡ near → x.first ≤ length os → bound < 2 ^ 60 → IsSeen e
+  bounded_shows : (near : Bool) (os : List Operation) (e : BlockValue) (bound : ℕ) → is_near e.whole bound ≡ near → x.first ≤ length os → bound < 2 ^ 60 → IsSeen e
       → Obeys x (bounded_unless near os e bound).operations → ShowsRange (maybe_range (bounded_unless near os e bound).range) (is_small (value_of (x.word e.value)) bound)
   bounded_shows false os e bound is begun few h obeys =
       span_shows (spanned os e.kind e.value bound).span (is_small (value_of (x.word e.value)) bound) (spanned_tells x e.kind os begun e.value bound h.sized few h.word h.kind_is obeys)
@@ -295,14 +295,14 @@ module _ (x : Readings) where
 
   -- A moved index.
 
-  pub record ShowsMoved (size factor : ℕ) (m : PlacedOperand) (e i : ℤ) (index : Operand) : Type 0 where
+  pub record ShowsMoved (size factor : ℕ) (m : PlacedOperand) (e i : ℤ) (index : BlockValue) : Type 0 where
     pub seen : IsSeen m.operand
     pub stands : StandsFor size index i → is_index size i ≡ true → is_small e ((size - 1) / factor) ≡ true → StandsFor size m.operand ((pos factor *ℤ e) +ℤ i)
 
-  stands_as : (size : ℕ) (o : Operand) (n : ℕ) (z : ℤ) → value_of (x.word o.value) ≡ pos n → z ≡ pos n → StandsFor size o z
+  stands_as : (size : ℕ) (o : BlockValue) (n : ℕ) (z : ℤ) → value_of (x.word o.value) ≡ pos n → z ≡ pos n → StandsFor size o z
   stands_as size o n z is same = record { test = ap (λ y. is_below_size y size) (is ∙ sym same); exact = λ e. is ∙ sym same }
 
-  module _ (os : List Operation) (begun : x.first ≤ length os) (size factor : ℕ) (few : size < 2 ^ 60) (some : 1 ≤ size) (more : 1 ≤ factor) (e i : Operand) (ez iz : ℤ) (e_seen : IsSeen e) (i_seen : IsSeen i)
+  module _ (os : List Operation) (begun : x.first ≤ length os) (size factor : ℕ) (few : size < 2 ^ 60) (some : 1 ≤ size) (more : 1 ≤ factor) (e i : BlockValue) (ez iz : ℤ) (e_seen : IsSeen e) (i_seen : IsSeen i)
       (e_is : value_of (x.word e.value) ≡ ez) where
     wide : IsWidth (moved_width size) × (size * 4 ≤ 2 ^ moved_width size)
     wide = width_moves size few
@@ -361,11 +361,11 @@ module _ (x : Readings) where
 
   -- One dimension of a view that moves.
 
-  pub record ShowsOne (size factor : ℕ) (e i : Operand) (ez iz : ℤ) (w : IndexWay) : Type 0 where
+  pub record ShowsOne (size factor : ℕ) (e i : BlockValue) (ez iz : ℤ) (w : IndexWay) : Type 0 where
     pub range : ShowsRange (maybe_range (offset_bounded w.operations e ((size - 1) / factor)).range) (is_small ez ((size - 1) / factor))
     pub index : ShowsMoved size factor (moved_operand (offset_bounded w.operations e ((size - 1) / factor)).operations size factor e i) ez iz i
 
-  pub moved_one_shown : (size factor : ℕ) (e i : Operand) (ez iz : ℤ) (w : IndexWay) → size < 2 ^ 60 → 1 ≤ size → 1 ≤ factor → x.first ≤ length w.operations → IsSeen e → IsSeen i → value_of (x.word e.value) ≡ ez
+  pub moved_one_shown : (size factor : ℕ) (e i : BlockValue) (ez iz : ℤ) (w : IndexWay) → size < 2 ^ 60 → 1 ≤ size → 1 ≤ factor → x.first ≤ length w.operations → IsSeen e → IsSeen i → value_of (x.word e.value) ≡ ez
       → Obeys x (moved_one size factor e i w).operations → ShowsOne size factor e i ez iz w
   moved_one_shown size factor e i ez iz w few some more begun e_seen i_seen e_is obeys =
       let bound = (size - 1) / factor in
@@ -393,12 +393,12 @@ module _ (x : Readings) where
 
   -- A split.
 
-  pub record ShowsDealt (v w p : Dim) (k : ℕ) (m : PlacedOperand) (a b : Operand) (az bz : ℤ) : Type 0 where
+  pub record ShowsDealt (v w p : Dim) (k : ℕ) (m : PlacedOperand) (a b : BlockValue) (az bz : ℤ) : Type 0 where
     pub seen : IsSeen m.operand
     pub stands : StandsFor v.size a az → StandsFor w.size b bz → is_index v.size az ≡ true → is_index w.size bz ≡ true
         → StandsFor p.size m.operand (pos (dealt_index p.banks (p.banks / k) (unsigned_abs az) (unsigned_abs bz)))
 
-  module _ (os : List Operation) (begun : x.first ≤ length os) (v w p : Dim) (k : ℕ) (split : AreSplitOf (v ∷ (w ∷ [])) (p ∷ []) (k ∷ [])) (own : IsFew w) (parent : IsFew p) (a b : Operand) (az bz : ℤ)
+  module _ (os : List Operation) (begun : x.first ≤ length os) (v w p : Dim) (k : ℕ) (split : AreSplitOf (v ∷ (w ∷ [])) (p ∷ []) (k ∷ [])) (own : IsFew w) (parent : IsFew p) (a b : BlockValue) (az bz : ℤ)
       (a_seen : IsSeen a) (b_seen : IsSeen b) where
     width_fits : IsWidth (moved_width p.size) × (p.size * 4 ≤ 2 ^ moved_width p.size)
     width_fits = width_moves p.size parent.small
@@ -412,7 +412,7 @@ module _ (x : Readings) where
     all_below : v.size * w.size < 2 ^ moved_width p.size
     all_below = let all = d.all in let m = width_fits.1 in let s = parent.dim.size in omega (arith, all, m, s)
 
-    same_number : (na nb n : ℕ) (o : Operand) → az ≡ pos na → bz ≡ pos nb → (nb / w.banks * v.size + na) * w.banks + nb % w.banks ≡ n → value_of (x.word o.value) ≡ pos n
+    same_number : (na nb n : ℕ) (o : BlockValue) → az ≡ pos na → bz ≡ pos nb → (nb / w.banks * v.size + na) * w.banks + nb % w.banks ≡ n → value_of (x.word o.value) ≡ pos n
         → StandsFor p.size o (pos (dealt_index p.banks (p.banks / k) (unsigned_abs az) (unsigned_abs bz)))
     same_number na nb n o a_is b_is number is =
         stands_as p.size o n _ is

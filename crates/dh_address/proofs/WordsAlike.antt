@@ -34,7 +34,7 @@ use Rattle.dh_rows.specs.MadeOperations.{Made, constant_made}
 use Rattle.dh_rows.proofs.Growing.{obeys_before}
 use Rattle.dh_address.proofs.WaySizes.{HasMaps}
 use Rattle.dh_address.specs.declared.literals.LiteralPlace.{LiteralPlace}
-use Rattle.dh_address.specs.declared.operands.Operand.{Operand}
+use Rattle.dh_address.specs.declared.operands.BlockValue.{BlockValue}
 use Rattle.dh_address.specs.declared.operands.Ranged.{Ranged}
 use Rattle.dh_address.specs.LiteralPlaces.{literal_at, whole_at, literal_places}
 use Rattle.dh_address.specs.Pieces.{RenumberedBlock, new_number, new_or_none, known_kind, indices_and_offsets, operand_values, aimed_reach, aim_width, select_width, waited, is_banked, IsAim, IsAimBut, IsAimedReach, IsAccessMade}
@@ -167,14 +167,14 @@ module _ (p : PlainPlan) (maps : HasMaps p) (tables : IsProgramTable p.table) (b
   chosen_some false v spot e = absurd (cc)
 
   -- the indices of the memory stand for those of this element
-  pub record IsLedTo (r : Reach) (is : List Operand) (spot : Spot) : Type 0 where
+  pub record IsLedTo (r : Reach) (is : List BlockValue) (spot : Spot) : Type 0 where
     pub numbers : List ℤ
     pub stand : AreFor x (dims_at p.table r.memory) is numbers
     pub inside : is_inside (dims_at p.table r.memory) numbers ≡ true
     pub spot_is : spot_of p.table r.memory (abs_of numbers) ≡ spot
 
   -- before the tests of an access
-  pub record PassShows (r : Reach) (row : Option ℕ) (ranges : List Ranged) (is : List Operand) : Type 0 where
+  pub record PassShows (r : Reach) (row : Option ℕ) (ranges : List Ranged) (is : List BlockValue) : Type 0 where
     pub in_range : all_in x ranges ≡ is_some (spot_in_row s old_first ws r row)
     pub shown : AllByRecursion (IsShown x) ranges
     pub seen_indices : AreSeen x is
@@ -242,12 +242,12 @@ module _ (p : PlainPlan) (maps : HasMaps p) (tables : IsProgramTable p.table) (b
         some_none : Some row ≡ None → ⊥
         some_none e = cc
 
-    pub passed_shows : (passed : List Operation) (ranges : List Ranged) (indices : List Operand) → IsIndexWay passed ranges indices (reach_passed a r old) → Obeys x passed → PassShows r r.row ranges indices
+    pub passed_shows : (passed : List Operation) (ranges : List Ranged) (indices : List BlockValue) → IsIndexWay passed ranges indices (reach_passed a r old) → Obeys x passed → PassShows r r.row ranges indices
     passed_shows passed ranges indices e obeys =
         way_as (λ os rs is. PassShows r r.row rs is) passed ranges indices (reach_passed a r old) e (to_shows r.row refl (subst (λ (os : List Operation). Obeys x os) e.0 obeys))
 
   -- indices in range are natural numbers below the sizes
-  all_within : (dims : List Dim) (is : List Operand) (zs : List ℤ) → AreFor x dims is zs → is_inside dims zs ≡ true → IndicesAreWithin x dims (operand_values is) (abs_of zs)
+  all_within : (dims : List Dim) (is : List BlockValue) (zs : List ℤ) → AreFor x dims is zs → is_inside dims zs ≡ true → IndicesAreWithin x dims (operand_values is) (abs_of zs)
   all_within [] [] [] f e = tt
   all_within [] [] (z ∷ zs) f e = absurd f
   all_within [] (i ∷ is) zs f e = absurd f
@@ -259,7 +259,7 @@ module _ (p : PlainPlan) (maps : HasMaps p) (tables : IsProgramTable p.table) (b
       ((f.0.exact b.0 ∙ n.is, n.below), all_within ds is zs f.1 b.1)
 
   -- literals are the numbers that the indices show
-  literals_same : (dims : List Dim) (is : List Operand) (zs : List ℤ) (numbers : List ℕ) → AreLiterals dims is numbers → AreSeen x is → AreFor x dims is zs → is_inside dims zs ≡ true → numbers ≡ abs_of zs
+  literals_same : (dims : List Dim) (is : List BlockValue) (zs : List ℤ) (numbers : List ℕ) → AreLiterals dims is numbers → AreSeen x is → AreFor x dims is zs → is_inside dims zs ≡ true → numbers ≡ abs_of zs
   literals_same [] [] [] [] l h f e = refl
   literals_same [] [] [] (n ∷ more) l h f e = absurd l
   literals_same [] [] (z ∷ zs) more l h f e = absurd f
@@ -274,7 +274,7 @@ module _ (p : PlainPlan) (maps : HasMaps p) (tables : IsProgramTable p.table) (b
       let others = literals_same ds is zs more l.1 h.1 f.1 b.1 in
       cc
 
-  place_is : (r : Reach) (is : List Operand) (zs : List ℤ) (place : Option LiteralPlace) → literal_places (dims_at p.table r.memory) is 0 0 ≡ place → length is ≡ length (dims_at p.table r.memory)
+  place_is : (r : Reach) (is : List BlockValue) (zs : List ℤ) (place : Option LiteralPlace) → literal_places (dims_at p.table r.memory) is 0 0 ≡ place → length is ≡ length (dims_at p.table r.memory)
       → AreSeen x is → AreFor x (dims_at p.table r.memory) is zs → is_inside (dims_at p.table r.memory) zs ≡ true
       → PlaceIs x (aim_width (dims_at p.table r.memory)) (select_width (dims_at p.table r.memory)) place (row_of (dims_at p.table r.memory) (abs_of zs)) (bank_of (dims_at p.table r.memory) (abs_of zs))
   place_is r is zs None e long h f i = tt
@@ -300,7 +300,7 @@ module _ (p : PlainPlan) (maps : HasMaps p) (tables : IsProgramTable p.table) (b
     pub memory : u.memory ≡ r.memory
     pub leads : (spot : Spot) → spot_of_reach s old_first ws r ≡ Some spot → ((place : ℕ) × IsListed spot.bank place r.banks) → spot_of_reach t first vs u ≡ Some spot
 
-  indices_lead : (r : Reach) (taken : List ℕ) (row : ℕ) (select : Option ℕ) (is : List Operand) (spot : Spot) (l : IsLedTo r is spot)
+  indices_lead : (r : Reach) (taken : List ℕ) (row : ℕ) (select : Option ℕ) (is : List BlockValue) (spot : Spot) (l : IsLedTo r is spot)
       → ShowsAim x (aim_width (dims_at p.table r.memory)) (select_width (dims_at p.table r.memory)) row select (row_of (dims_at p.table r.memory) (abs_of l.numbers)) (bank_of (dims_at p.table r.memory) (abs_of l.numbers))
       → IsPickedBank r select → ((place : ℕ) × IsListed spot.bank place r.banks) → spot_of_reach t first vs (aimed_reach r taken row select) ≡ Some spot
   indices_lead r taken row select is spot l shows picked listed =
@@ -338,7 +338,7 @@ module _ (p : PlainPlan) (maps : HasMaps p) (tables : IsProgramTable p.table) (b
   but_has (Some place) width narrow dims indices banked old new row select h = aim_has banked (constant_made old width place.row) _ new row select h
 
   module _ (r : Reach) (m : IsMeant r) where
-    aimed_leads : (row : Option ℕ) → r.row ≡ row → (is : List Operand) (old last : List Operation) (u : Reach) → IsAimedReach a r row is old last u → first ≤ length old → Obeys x last → HasMany p.table r row is → AreSeen x is
+    aimed_leads : (row : Option ℕ) → r.row ≡ row → (is : List BlockValue) (old last : List Operation) (u : Reach) → IsAimedReach a r row is old last u → first ≤ length old → Obeys x last → HasMany p.table r row is → AreSeen x is
         → (row ≡ None → (spot : Spot) → spot_of_reach s old_first ws r ≡ Some spot → IsLedTo r is spot) → LeadsAlike r u
     aimed_leads None e is old last u h begun obeys long seen_indices lead =
         let dims = dims_at p.table r.memory in

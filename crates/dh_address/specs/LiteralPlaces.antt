@@ -10,7 +10,7 @@ use Rattle.dh_plan.specs.declared.operations.Operation.{Operation}
 use Rattle.dh_plan.specs.declared.operations.OperationForm.{OperationForm}
 use Rattle.dh_plan.specs.declared.operations.OperationForm.TheVariants.{Constant}
 use Rattle.dh_address.specs.declared.literals.LiteralPlace.{LiteralPlace}
-use Rattle.dh_address.specs.declared.operands.Operand.{Operand}
+use Rattle.dh_address.specs.declared.operands.BlockValue.{BlockValue}
 
 -- a word's value, if it is a number from 0 on
 abbrev pub natural_in : Kind → (bits : ℕ) → Option ℕ
@@ -69,7 +69,7 @@ and_then None rest = None
 and_then (Some n) rest = rest n
 
 -- row and bank of dimensions so far, and of those to come
-abbrev pub literal_places : List Dim → List Operand → (row bank : ℕ) → Option LiteralPlace
+abbrev pub literal_places : List Dim → List BlockValue → (row bank : ℕ) → Option LiteralPlace
 literal_places (d ∷ ds) (i ∷ is) row bank =
     and_then (below_size i.literal d.size) (λ n. literal_places ds is ((row * (d.size / d.banks) % 2 ^ 64 + n / d.banks) % 2 ^ 64) ((bank * d.banks % 2 ^ 64 + n % d.banks) % 2 ^ 64))
 literal_places _ _ row bank = Some (record { row = row; bank = bank })

@@ -22,7 +22,7 @@ use Rattle.dh_rows.specs.MadeOperations.{Made, Summed, IsMade, summed, sum_of, p
 use Rattle.dh_rows.specs.Readings.{GrowsPlain}
 use Rattle.dh_rows.specs.RowsShown.{MakesRow, MakesTest}
 use Rattle.dh_address.specs.declared.literals.LiteralPlace.{LiteralPlace}
-use Rattle.dh_address.specs.declared.operands.Operand.{Operand}
+use Rattle.dh_address.specs.declared.operands.BlockValue.{BlockValue}
 use Rattle.dh_address.specs.declared.operands.Ranged.{Ranged}
 use Rattle.dh_address.specs.LiteralPlaces.{below_size, literal_places}
 pub use Rattle.dh_address.specs.Arounds.{RenumberedBlock, new_number, new_or_none, known_kind}
@@ -117,7 +117,7 @@ IsProbeValue true a guard r old new number = IsMade new number (false_made old g
 pub record IsProbed (a : RenumberedBlock) (guard : Option ℕ) (r : Reach) (fault : ℕ) (old new : List Operation) (number : ℕ) : Type 0 where
   pub passed : List Operation
   pub ranges : List Ranged
-  pub indices : List Operand
+  pub indices : List BlockValue
   pub passes : IsIndexWay passed ranges indices (reach_passed a r old)
   pub checked : List Operation
   pub checks : AreChecked guard fault ranges passed checked
@@ -170,11 +170,11 @@ IsAimBut (Some place) width narrow dims indices banked old new row select =
     IsAim banked (constant_made old width place.row) (constant_made (constant_made old width place.row).operations narrow place.bank) new row select
 
 -- the values of operands
-abbrev pub operand_values : List Operand → List ℕ
+abbrev pub operand_values : List BlockValue → List ℕ
 operand_values is = map (λ o. o.value) is
 
 -- row and bank of these indices
-abbrev pub IsIndexAim : List Dim → List Operand → (banked : Bool) → (old new : List Operation) → (row : ℕ) → (select : Option ℕ) → Type 0
+abbrev pub IsIndexAim : List Dim → List BlockValue → (banked : Bool) → (old new : List Operation) → (row : ℕ) → (select : Option ℕ) → Type 0
 IsIndexAim dims is banked old new row select = IsAimBut (literal_places dims is 0 0) (aim_width dims) (select_width dims) dims (operand_values is) banked old new row select
 
 -- beside indices a select means nothing, but is waited for: as a number of one bit
@@ -182,14 +182,14 @@ abbrev pub waited : List Operation → (select : Option ℕ) → Summed
 waited os None = summed os None
 waited os (Some v) = sum_of (converted os v 1)
 
-pub record IsAimedByIndices (a : RenumberedBlock) (r : Reach) (is : List Operand) (old new : List Operation) (t : Reach) : Type 0 where
+pub record IsAimedByIndices (a : RenumberedBlock) (r : Reach) (is : List BlockValue) (old new : List Operation) (t : Reach) : Type 0 where
   pub row : ℕ
   pub select : Option ℕ
   pub aim : IsIndexAim (dims_at a.table r.memory) is (is_banked r) (waited old (new_or_none a r.select)).operations new row select
   pub reach : t ≡ aimed_reach r (indices_and_offsets a r ++ one_or_none (waited old (new_or_none a r.select)).sum) row select
 
 -- the access t is of the row of a bank that the access r leads to, behind its views by these indices
-abbrev pub IsAimedReach : RenumberedBlock → (r : Reach) → (row : Option ℕ) → List Operand → (old new : List Operation) → (t : Reach) → Type 0
+abbrev pub IsAimedReach : RenumberedBlock → (r : Reach) → (row : Option ℕ) → List BlockValue → (old new : List Operation) → (t : Reach) → Type 0
 IsAimedReach a r None is old new t = IsAimedByIndices a r is old new t
 IsAimedReach a r (Some row) is old new t = (new ≡ old) × (t ≡ row_aimed a r row)
 
@@ -197,7 +197,7 @@ IsAimedReach a r (Some row) is old new t = (new ≡ old) × (t ≡ row_aimed a r
 pub record IsAccessMade (a : RenumberedBlock) (guard : Option ℕ) (r : Reach) (old last : List Operation) (on : Option ℕ) (t : Reach) : Type 0 where
   pub passed : List Operation
   pub ranges : List Ranged
-  pub indices : List Operand
+  pub indices : List BlockValue
   pub passes : IsIndexWay passed ranges indices (reach_passed a r old)
   pub guarded : List Operation
   pub guards : IsGuarded guard ranges passed guarded on

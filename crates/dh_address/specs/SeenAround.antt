@@ -6,7 +6,7 @@ use Rattle.dh_plan.specs.declared.operations.Operation.{Operation}
 use Rattle.dh_plan.specs.declared.operations.Reach.{Reach}
 use Rattle.dh_rows.specs.MadeOperations.{IsSummed}
 use Rattle.dh_address.specs.declared.operands.Ranged.{Ranged}
-use Rattle.dh_address.specs.declared.passing.Passed.{Passed}
+use Rattle.dh_address.specs.declared.passing.PassedIndices.{PassedIndices}
 use Rattle.dh_address.specs.declared.ranging.OldBlock.{OldBlock}
 use Rattle.dh_address.specs.declared.renumbering.Renumbering.{Renumbering}
 use Rattle.dh_address.specs.WaysMade.{IsIndexWay, ranged_operand, operand_of, passed_to, reach_passed}
@@ -42,12 +42,12 @@ pub record IsCheckedOne (guard : Option ℕ) (fault : ℕ) (r : Ranged) (old new
   pub check : new ≡ check_made mid guard fault test
 
 -- what an access needs before its tests
-abbrev pub IsPassedTo : RenumberedBlock → Reach → (row : Option ℕ) → (old new : List Operation) → Passed → Type 0
+abbrev pub IsPassedTo : RenumberedBlock → Reach → (row : Option ℕ) → (old new : List Operation) → PassedIndices → Type 0
 IsPassedTo a r row old new p = IsIndexWay new p.ranges p.indices (passed_to a r row old)
 
-abbrev pub IsReachPassed : RenumberedBlock → Reach → (old new : List Operation) → Passed → Type 0
+abbrev pub IsReachPassed : RenumberedBlock → Reach → (old new : List Operation) → PassedIndices → Type 0
 IsReachPassed a r old new p = IsIndexWay new p.ranges p.indices (reach_passed a r old)
 
 -- of a row, of which nothing is put down
-abbrev pub IsRowPassed : RenumberedBlock → Reach → (row : ℕ) → Passed → Type 0
+abbrev pub IsRowPassed : RenumberedBlock → Reach → (row : ℕ) → PassedIndices → Type 0
 IsRowPassed a r row p = (p.ranges ≡ ranged_operand (operand_of a row) (rows_of (dims_at a.table r.memory) % 2 ^ 64) ∷ []) × (p.indices ≡ [])

@@ -14,24 +14,24 @@ use Rattle.dh_plan.specs.declared.operations.Reach.{Reach}
 use Rattle.dh_plan.specs.declared.operations.ReachStep.{ReachStep}
 use Rattle.dh_rows.specs.declared.spanning.Span.{Span}
 use Rattle.dh_rows.specs.MadeOperations.{Made, Spanned, constant_made, moved, dealt, spanned, moved_width}
-use Rattle.dh_address.specs.declared.operands.Operand.{Operand}
+use Rattle.dh_address.specs.declared.operands.BlockValue.{BlockValue}
 use Rattle.dh_address.specs.declared.operands.Ranged.{Ranged}
 use Rattle.dh_address.specs.Arounds.{RenumberedBlock, new_number, known_kind}
 use Rattle.dh_address.specs.LiteralPlaces.{literal_at, whole_at, below_size}
 
 -- Values by which an access names its element.
 
-abbrev pub new_operand : (literal : Option ℕ) → Kind → (value : ℕ) → Operand
+abbrev pub new_operand : (literal : Option ℕ) → Kind → (value : ℕ) → BlockValue
 new_operand literal k value = record { literal = literal; whole = None; kind = k; value = value }
 
 -- a value of the old plan
-abbrev pub operand_of : RenumberedBlock → (value : ℕ) → Operand
+abbrev pub operand_of : RenumberedBlock → (value : ℕ) → BlockValue
 operand_of a v = record { literal = literal_at a.operations (v - a.first); whole = whole_at a.operations (v - a.first); kind = known_kind a v; value = new_number a v }
 
-abbrev pub ranged_operand : Operand → (size : ℕ) → Ranged
+abbrev pub ranged_operand : BlockValue → (size : ℕ) → Ranged
 ranged_operand o size = record { operand = o; size = size }
 
-abbrev pub ranges_by : List Dim → List Operand → List Ranged
+abbrev pub ranges_by : List Dim → List BlockValue → List Ranged
 ranges_by (d ∷ ds) (i ∷ is) = ranged_operand i d.size ∷ ranges_by ds is
 ranges_by _ _ = []
 
@@ -58,19 +58,19 @@ is_near None bound = false
 is_near (Some z) bound = nat_le (unsigned_abs z) bound
 
 -- of such a constant nothing is to be tested
-abbrev pub bounded_unless : (near : Bool) → List Operation → Operand → (bound : ℕ) → Bounded
+abbrev pub bounded_unless : (near : Bool) → List Operation → BlockValue → (bound : ℕ) → Bounded
 bounded_unless near os e bound = if near then record { operations = os; range = None } else bounded_span (spanned os e.kind e.value bound)
 
-abbrev pub offset_bounded : List Operation → Operand → (bound : ℕ) → Bounded
+abbrev pub offset_bounded : List Operation → BlockValue → (bound : ℕ) → Bounded
 offset_bounded os e bound = bounded_unless (is_near e.whole bound) os e bound
 
 -- Indices behind a view.
 
 pub record PlacedOperand : Type 0 where
   pub operations : List Operation
-  pub operand : Operand
+  pub operand : BlockValue
 
-abbrev pub IsPlacedOperand : List Operation → Operand → PlacedOperand → Type 0
+abbrev pub IsPlacedOperand : List Operation → BlockValue → PlacedOperand → Type 0
 IsPlacedOperand os o m = (os ≡ m.operations) × (o ≡ m.operand)
 
 abbrev pub placed_as : (literal : Option ℕ) → (width : ℕ) → Made → PlacedOperand
@@ -103,7 +103,7 @@ abbrev pub moved_as : (literal : Option ℕ) → List Operation → (width facto
 moved_as literal os width factor offset index = placed_as literal width (moved_made os literal width factor offset index)
 
 -- a small offset is 0 where the factor is beyond the size: then any multiple will do
-abbrev pub moved_operand : List Operation → (size factor : ℕ) → (offset index : Operand) → PlacedOperand
+abbrev pub moved_operand : List Operation → (size factor : ℕ) → (offset index : BlockValue) → PlacedOperand
 moved_operand os size factor offset index = moved_as (moved_literal offset.whole index.literal factor size) os (moved_width size) (min factor size) offset.value index.value
 
 -- the constant of a copy and a place in it, where both are in range
@@ -120,7 +120,7 @@ dealt_made os literal width copies part copy index = made_or os literal width (d
 abbrev pub dealt_as : (literal : Option ℕ) → List Operation → (width copies : ℕ) → Dim → (copy index : ℕ) → PlacedOperand
 dealt_as literal os width copies part copy index = placed_as literal width (dealt_made os literal width copies part copy index)
 
-abbrev pub dealt_operand : List Operation → (size copies : ℕ) → Dim → (copy index : Operand) → PlacedOperand
+abbrev pub dealt_operand : List Operation → (size copies : ℕ) → Dim → (copy index : BlockValue) → PlacedOperand
 dealt_operand os size copies part copy index = dealt_as (dealt_literal copy.literal index.literal copies part) os (moved_width size) copies part copy.value index.value
 
 -- Ways.
@@ -129,12 +129,12 @@ dealt_operand os size copies part copy index = dealt_as (dealt_literal copy.lite
 pub record IndexWay : Type 0 where
   pub operations : List Operation
   pub ranges : List Ranged
-  pub indices : List Operand
+  pub indices : List BlockValue
 
-abbrev pub way : List Operation → List Ranged → List Operand → IndexWay
+abbrev pub way : List Operation → List Ranged → List BlockValue → IndexWay
 way os ranges indices = record { operations = os; ranges = ranges; indices = indices }
 
-abbrev pub IsIndexWay : List Operation → List Ranged → List Operand → IndexWay → Type 0
+abbrev pub IsIndexWay : List Operation → List Ranged → List BlockValue → IndexWay → Type 0
 IsIndexWay os ranges indices w = (os ≡ w.operations) × ((ranges ≡ w.ranges) × (indices ≡ w.indices))
 
 abbrev pub maybe_range : Option Ranged → List Ranged
@@ -146,13 +146,13 @@ maybe_range (Some r) = r ∷ []
 abbrev pub moved_last : IndexWay → Option Ranged → PlacedOperand → IndexWay
 moved_last w range m = way m.operations (w.ranges ++ maybe_range range) (w.indices ++ m.operand ∷ [])
 
-abbrev pub moved_next : (size factor : ℕ) → (offset index : Operand) → IndexWay → Bounded → IndexWay
+abbrev pub moved_next : (size factor : ℕ) → (offset index : BlockValue) → IndexWay → Bounded → IndexWay
 moved_next size factor offset index w b = moved_last w b.range (moved_operand b.operations size factor offset index)
 
-abbrev pub moved_one : (size factor : ℕ) → (offset index : Operand) → IndexWay → IndexWay
+abbrev pub moved_one : (size factor : ℕ) → (offset index : BlockValue) → IndexWay → IndexWay
 moved_one size factor offset index w = moved_next size factor offset index w (offset_bounded w.operations offset ((size - 1) / factor))
 
-abbrev pub moved_all : List Dim → (factors : List ℕ) → (offsets indices : List Operand) → IndexWay → IndexWay
+abbrev pub moved_all : List Dim → (factors : List ℕ) → (offsets indices : List BlockValue) → IndexWay → IndexWay
 moved_all (d ∷ ds) (k ∷ ks) (e ∷ es) (i ∷ is) w = moved_all ds ks es is (moved_one d.size k e i w)
 moved_all _ _ _ _ w = w
 
@@ -164,30 +164,30 @@ unit_factors dims = map (λ d. 1) dims
 
 pub record Dealt : Type 0 where
   pub operations : List Operation
-  pub indices : List Operand
+  pub indices : List BlockValue
 
 abbrev pub dealt_one : PlacedOperand → Dealt
 dealt_one m = record { operations = m.operations; indices = m.operand ∷ [] }
 
-abbrev pub IsDealt : Dealt → List Operation → List Operand → Type 0
+abbrev pub IsDealt : Dealt → List Operation → List BlockValue → Type 0
 IsDealt m os indices = (os ≡ m.operations) × (indices ≡ m.indices)
 
 -- where a dimension or an index lacks
 abbrev pub none_dealt : List Operation → Dealt
 none_dealt os = record { operations = os; indices = [] }
 
-abbrev pub dealt_from : (copies part : Dim) → (parent : Option Dim) → (copy index : Option Operand) → List Operation → Dealt
+abbrev pub dealt_from : (copies part : Dim) → (parent : Option Dim) → (copy index : Option BlockValue) → List Operation → Dealt
 dealt_from c part (Some p) (Some a) (Some b) os = dealt_one (dealt_operand os p.size c.size part a b)
 dealt_from c part _ _ _ os = none_dealt os
 
-abbrev pub share_dealt : (copies part : Dim) → (parent : List Dim) → List Operand → List Operation → Dealt
+abbrev pub share_dealt : (copies part : Dim) → (parent : List Dim) → List BlockValue → List Operation → Dealt
 share_dealt c part parent is os = dealt_from c part (slice_get parent 0) (slice_get is 0) (slice_get is 1) os
 
-abbrev pub view_dealt : (copies part : Option Dim) → (parent : List Dim) → List Operand → List Operation → Dealt
+abbrev pub view_dealt : (copies part : Option Dim) → (parent : List Dim) → List BlockValue → List Operation → Dealt
 view_dealt (Some c) (Some part) parent is os = share_dealt c part parent is os
 view_dealt _ _ parent is os = none_dealt os
 
-abbrev pub split_made : (view parent : List Dim) → List Operand → List Operation → Dealt
+abbrev pub split_made : (view parent : List Dim) → List BlockValue → List Operation → Dealt
 split_made view parent is os = view_dealt (slice_get view 0) (slice_get view 1) parent is os
 
 abbrev pub dealt_way : List Ranged → Dealt → IndexWay
@@ -195,13 +195,13 @@ dealt_way ranges m = way m.operations ranges m.indices
 
 -- Of any view: behind what is to be in range so far.
 
-abbrev pub passed_by : ViewSort → ViewMap → (offsets indices : List Operand) → List Operation → List Ranged → IndexWay
+abbrev pub passed_by : ViewSort → ViewMap → (offsets indices : List BlockValue) → List Operation → List Ranged → IndexWay
 passed_by Shrink v es is os ranges = way os ranges is
 passed_by Split v es is os ranges = dealt_way ranges (split_made v.shape.dims v.parent.dims is os)
 passed_by Suffix v es is os ranges = moved_all v.parent.dims v.by es is (way os ranges [])
 passed_by Shift v es is os ranges = moved_all v.parent.dims (unit_factors v.parent.dims) es is (way os ranges [])
 
-abbrev pub passed_if : Option ViewMap → (offsets : List Operand) → IndexWay → IndexWay
+abbrev pub passed_if : Option ViewMap → (offsets : List BlockValue) → IndexWay → IndexWay
 passed_if None es w = w
 passed_if (Some v) es w = passed_by v.sort v es w.indices w.operations (w.ranges ++ ranges_by v.shape.dims w.indices)
 

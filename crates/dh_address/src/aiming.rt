@@ -9,7 +9,7 @@ ghost use Rattle.dh_address.specs.Pieces.{IsAim, IsAimedReach, IsAimedByIndices,
 ghost use Rattle.dh_address.specs.SeenAround.{around_seen};
 
 use crate::literals::{LiteralPlace, constant_place};
-use crate::operands::{Operand, values_of};
+use crate::operands::{BlockValue, values_of};
 use crate::ranging::{OldBlock, bank_total, dims_in, element_total};
 use crate::renumbering::Renumbering;
 use dh_base::{Items, NoMemory};
@@ -19,7 +19,7 @@ use dh_tree::Dim;
 
 /// The values of a row, and of its bank where there are several.
 #[derive(Clone, Copy)]
-pub struct Aim {
+pub struct AimedRow {
     /// The row.
     pub row: u64,
     /// The bank.
@@ -41,17 +41,17 @@ fn push_place(
     narrow: u8,
     place: LiteralPlace,
     banked: bool,
-) -> Result<Aim, NoMemory>
+) -> Result<AimedRow, NoMemory>
     ensures { IfOk result (λ a. IsAim banked (constant_made list.old width place.row)
         (constant_made (constant_made list.old width place.row).operations narrow place.bank)
         list.new a.row a.select) }
 {
     let row = push_constant(list, width, place.row)?;
     if !banked {
-        return Ok(Aim { row, select: None });
+        return Ok(AimedRow { row, select: None });
     }
     let select = Some(push_constant(list, narrow, place.bank)?);
-    Ok(Aim { row, select })
+    Ok(AimedRow { row, select })
 }
 
 /// Adds a bank as a select. Each test which bank is picked is then of few bits.
@@ -76,7 +76,7 @@ fn push_spread(
     dims: &[Dim],
     indices: &[u64],
     banked: bool,
-) -> Result<Aim, NoMemory>
+) -> Result<AimedRow, NoMemory>
     requires { AllByRecursion IsDim dims.now }
     ensures { IfOk result (λ a. IsSpreadOut width narrow dims.now indices.now banked
         list.old list.new a.row a.select) }
@@ -84,10 +84,10 @@ fn push_spread(
     let values = spread(list, width, dims, indices, banked)?;
     let row = push_or_zero(list, width, values.row)?;
     if !banked {
-        return Ok(Aim { row, select: None });
+        return Ok(AimedRow { row, select: None });
     }
     let select = Some(push_select(list, width, narrow, values.bank)?);
-    Ok(Aim { row, select })
+    Ok(AimedRow { row, select })
 }
 
 /// Adds the row of an element of these indices, and its bank where the access can reach several.
@@ -95,8 +95,8 @@ fn aim_by_indices(
     list: &mut OperationList,
     old: &OldBlock<'_>,
     reach: &Reach,
-    indices: &[Operand],
-) -> Result<Aim, NoMemory>
+    indices: &[BlockValue],
+) -> Result<AimedRow, NoMemory>
     requires { IsProgramTable old.now.table.now }
     ensures { IfOk result (λ a. IsIndexAim (dims_at old.now.table.now reach.now.memory)
         indices.now (is_banked reach.now) list.old list.new a.row a.select) }
@@ -129,7 +129,7 @@ fn aimed(
     old: &OldBlock<'_>,
     reach: &Reach,
     indices: Items<u64>,
-    aim: Aim,
+    aim: AimedRow,
 ) -> Result<ApartReach, NoMemory>
     ensures { IfOk result (λ t. t ≡ aimed_reach reach.now indices aim.row aim.select) }
 {
@@ -158,7 +158,7 @@ fn aim_row(
     let taken = known.taken(old.alloc, reach)?;
     let row = known.number(row);
     let select = known.maybe(reach.select);
-    aimed(old, reach, taken, Aim { row, select })
+    aimed(old, reach, taken, AimedRow { row, select })
 }
 
 /// Adds the row of an access by indices.
@@ -167,7 +167,7 @@ fn aim_indices(
     old: &OldBlock<'_>,
     known: &Renumbering,
     reach: &Reach,
-    indices: &[Operand],
+    indices: &[BlockValue],
 ) -> Result<ApartReach, NoMemory>
     requires { IsProgramTable old.now.table.now }
     ensures { IfOk result (IsAimedByIndices (around_seen old.now known.now) reach.now indices.now
@@ -187,7 +187,7 @@ pub fn aim_reach(
     old: &OldBlock<'_>,
     known: &Renumbering,
     reach: &Reach,
-    indices: &[Operand],
+    indices: &[BlockValue],
 ) -> Result<ApartReach, NoMemory>
     requires { IsProgramTable old.now.table.now }
     ensures { IfOk result (IsAimedReach (around_seen old.now known.now) reach.now reach.now.row

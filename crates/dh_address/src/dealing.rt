@@ -8,7 +8,7 @@ ghost use Rattle.dh_address.specs.WaysMade.{IsDealt, IsPlacedOperand, dealt_as, 
 
 use crate::literals::known_below;
 use crate::numbers::{quotient, remainder};
-use crate::operands::Operand;
+use crate::operands::BlockValue;
 use dh_base::{Items, NoMemory};
 use dh_rows::{OperationList, moved_width, push_constant, push_dealt};
 use dh_tree::Dim;
@@ -63,13 +63,13 @@ fn deal_as(
     part: Dim,
     copy: u64,
     index: u64,
-) -> Result<Operand, NoMemory>
+) -> Result<BlockValue, NoMemory>
     requires { IsDim part }
     ensures { IfOk result (λ o. IsPlacedOperand list.new o
         (dealt_as literal list.old width copies part copy index)) }
 {
     let value = push_dealt_or(list, literal, width, copies, part, copy, index)?;
-    Ok(Operand {
+    Ok(BlockValue {
         literal,
         whole: None,
         kind: Kind::Unsigned(width),
@@ -83,9 +83,9 @@ fn deal_operand(
     size: u64,
     copies: u64,
     part: Dim,
-    copy: Operand,
-    index: Operand,
-) -> Result<Operand, NoMemory>
+    copy: BlockValue,
+    index: BlockValue,
+) -> Result<BlockValue, NoMemory>
     requires { IsDim part }
     ensures { IfOk result (λ o. IsPlacedOperand list.new o
         (dealt_operand list.old size copies part copy index)) }
@@ -109,9 +109,9 @@ fn deal_one(
     size: u64,
     copies: u64,
     part: Dim,
-    copy: Operand,
-    index: Operand,
-) -> Result<Items<Operand>, NoMemory>
+    copy: BlockValue,
+    index: BlockValue,
+) -> Result<Items<BlockValue>, NoMemory>
     requires { IsDim part }
     ensures { IfOk result (IsDealt (dealt_one (dealt_operand list.old size copies part copy index))
         list.new) }
@@ -129,8 +129,8 @@ fn deal_share(
     copies: Dim,
     part: Dim,
     parent: &[Dim],
-    indices: &[Operand],
-) -> Result<Items<Operand>, NoMemory>
+    indices: &[BlockValue],
+) -> Result<Items<BlockValue>, NoMemory>
     requires { IsDim part }
     ensures { IfOk result (IsDealt (share_dealt copies part parent.now indices.now list.old)
         list.new) }
@@ -155,8 +155,8 @@ pub fn deal_all(
     alloc: Global,
     view: &[Dim],
     parent: &[Dim],
-    indices: &[Operand],
-) -> Result<Items<Operand>, NoMemory>
+    indices: &[BlockValue],
+) -> Result<Items<BlockValue>, NoMemory>
     requires { AllByRecursion IsDim view.now }
     ensures { IfOk result (IsDealt (split_made view.now parent.now indices.now list.old) list.new) }
 {

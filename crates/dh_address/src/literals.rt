@@ -5,7 +5,7 @@ ghost use Rattle.dh_value.specs.Words.{signed};
 ghost use Rattle.dh_address.specs.LiteralPlaces.{below_size, constant_in, literal_at, literal_places, natural, whole_of_word, whole_at};
 
 use crate::numbers::{quotient, remainder};
-use crate::operands::Operand;
+use crate::operands::BlockValue;
 use dh_plan::{Operation, OperationForm};
 use dh_tree::Dim;
 use dh_value::{Kind, Word};
@@ -120,7 +120,7 @@ pub fn known_below(literal: Option<u64>, size: u64) -> Option<u64>
 }
 
 /// Row and bank of the element of these indices, if all are constants and in range. Numbers wrap.
-pub fn constant_place(dims: &[Dim], indices: &[Operand]) -> Option<LiteralPlace>
+pub fn constant_place(dims: &[Dim], indices: &[BlockValue]) -> Option<LiteralPlace>
     ensures { result ≡ literal_places dims.now indices.now 0 0 }
 {
     let mut row = 0u64;

@@ -6,7 +6,7 @@ ghost use Rattle.dh_address.specs.WaysMade.{IsBounded, IsPlacedOperand, IsIndexW
 
 use crate::literals::known_below;
 use crate::numbers::quotient;
-use crate::operands::{Operand, Ranged};
+use crate::operands::{BlockValue, Ranged};
 use dh_base::{Items, NoMemory};
 use dh_rows::{OperationList, moved_width, push_constant, push_moved, push_span};
 use dh_tree::Dim;
@@ -29,7 +29,7 @@ fn is_near(offset: Option<i128>, bound: u64) -> bool
 /// Adds what is to be in range where an offset is no further from 0 than a bound; None where it always is.
 fn push_bounded(
     list: &mut OperationList,
-    offset: Operand,
+    offset: BlockValue,
     bound: u64,
 ) -> Result<Option<Ranged>, NoMemory>
     ensures { IfOk result (λ range. IsBounded list.new range
@@ -41,7 +41,7 @@ fn push_bounded(
     match push_span(list, offset.kind, offset.value, bound)? {
         None => Ok(None),
         Some(span) => {
-            let operand = Operand {
+            let operand = BlockValue {
                 literal: None,
                 whole: None,
                 kind: span.kind,
@@ -116,12 +116,12 @@ fn move_as(
     factor: u64,
     offset: u64,
     index: u64,
-) -> Result<Operand, NoMemory>
+) -> Result<BlockValue, NoMemory>
     ensures { IfOk result (λ o. IsPlacedOperand list.new o
         (moved_as literal list.old width factor offset index)) }
 {
     let value = push_moved_or(list, literal, width, factor, offset, index)?;
-    Ok(Operand {
+    Ok(BlockValue {
         literal,
         whole: None,
         kind: Kind::Unsigned(width),
@@ -134,9 +134,9 @@ fn move_operand(
     list: &mut OperationList,
     size: u64,
     factor: u64,
-    offset: Operand,
-    index: Operand,
-) -> Result<Operand, NoMemory>
+    offset: BlockValue,
+    index: BlockValue,
+) -> Result<BlockValue, NoMemory>
     ensures { IfOk result (λ o. IsPlacedOperand list.new o
         (moved_operand list.old size factor offset index)) }
 {
@@ -166,10 +166,10 @@ fn move_one(
     list: &mut OperationList,
     size: u64,
     factor: u64,
-    offset: Operand,
-    index: Operand,
+    offset: BlockValue,
+    index: BlockValue,
     ranges: &mut Items<Ranged>,
-    moved: &mut Items<Operand>,
+    moved: &mut Items<BlockValue>,
 ) -> Result<(), NoMemory>
     ensures { OnOk result (IsIndexWay list.new ranges.new moved.new
         (moved_one size factor offset index (way list.old ranges.old moved.old))) }
@@ -186,10 +186,10 @@ pub fn move_all(
     list: &mut OperationList,
     dims: &[Dim],
     factors: &[u64],
-    offsets: &[Operand],
-    indices: &[Operand],
+    offsets: &[BlockValue],
+    indices: &[BlockValue],
     ranges: &mut Items<Ranged>,
-    moved: &mut Items<Operand>,
+    moved: &mut Items<BlockValue>,
 ) -> Result<(), NoMemory>
     ensures { OnOk result (IsIndexWay list.new ranges.new moved.new
         (moved_all dims.now factors.now offsets.now indices.now

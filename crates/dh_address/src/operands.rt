@@ -15,7 +15,7 @@ use std::alloc::Global;
 
 /// A value of the new block.
 #[derive(Clone, Copy)]
-pub struct Operand {
+pub struct BlockValue {
     /// Its number, if it is a constant from 0 on.
     pub literal: Option<u64>,
     /// Its value, of whatever sign, if it is a constant of the old block.
@@ -30,17 +30,17 @@ pub struct Operand {
 #[derive(Clone, Copy)]
 pub struct Ranged {
     /// The value.
-    pub operand: Operand,
+    pub operand: BlockValue,
     /// The size.
     pub size: u64,
 }
 
 /// What a value of the old plan has become.
-pub fn operand_of(old: &OldBlock<'_>, known: &Renumbering, value: u64) -> Operand
+pub fn operand_of(old: &OldBlock<'_>, known: &Renumbering, value: u64) -> BlockValue
     ensures { result ≡ operand_of (around_seen old.now known.now) value }
 {
     let place = place_from(known.first, value);
-    Operand {
+    BlockValue {
         literal: constant_at(old.operations, place),
         whole: whole_at(old.operations, place),
         kind: known.kind(value),
@@ -53,7 +53,7 @@ pub fn operands_of(
     old: &OldBlock<'_>,
     known: &Renumbering,
     values: &[u64],
-) -> Result<Items<Operand>, NoMemory>
+) -> Result<Items<BlockValue>, NoMemory>
     ensures { IfOk result (λ new. new
         ≡ map (operand_of (around_seen old.now known.now)) values.now) }
 {
@@ -65,7 +65,7 @@ pub fn operands_of(
 }
 
 /// The numbers of operands.
-pub fn values_of(alloc: Global, operands: &[Operand]) -> Result<Items<u64>, NoMemory>
+pub fn values_of(alloc: Global, operands: &[BlockValue]) -> Result<Items<u64>, NoMemory>
     ensures { IfOk result (λ values. values ≡ operand_values operands.now) }
 {
     let mut values = Items::new(alloc);
@@ -79,7 +79,7 @@ pub fn values_of(alloc: Global, operands: &[Operand]) -> Result<Items<u64>, NoMe
 pub fn note_ranges(
     ranges: &mut Items<Ranged>,
     dims: &[Dim],
-    indices: &[Operand],
+    indices: &[BlockValue],
 ) -> Result<(), NoMemory>
     ensures { OnOk result (ranges.new ≡ ranges.old ++ ranges_by dims.now indices.now) }
 {

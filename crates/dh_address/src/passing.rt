@@ -9,7 +9,7 @@ ghost use Rattle.dh_address.specs.WaysMade.{IsIndexWay, moved_all, unit_factors,
 
 use crate::dealing::deal_all;
 use crate::moving::{move_all, ones_of};
-use crate::operands::{Operand, Ranged, note_ranges, operand_of, operands_of};
+use crate::operands::{BlockValue, Ranged, note_ranges, operand_of, operands_of};
 use crate::ranging::{OldBlock, dims_in, row_count};
 use crate::renumbering::Renumbering;
 use dh_base::{Items, NoMemory};
@@ -20,11 +20,11 @@ use std::alloc::Global;
 
 /// What an access needs to be in range, and the indices of its memory; none where it is of a row.
 #[derive(Drop)]
-pub struct Passed {
+pub struct PassedIndices {
     /// What is to be in range.
     pub ranges: Items<Ranged>,
     /// The indices of the memory.
-    pub indices: Items<Operand>,
+    pub indices: Items<BlockValue>,
 }
 
 /// Adds the indices of the parent of a view that moves, by these factors.
@@ -33,10 +33,10 @@ fn pass_moving(
     alloc: Global,
     view: &ViewMap,
     factors: &[u64],
-    offsets: &[Operand],
-    indices: &[Operand],
+    offsets: &[BlockValue],
+    indices: &[BlockValue],
     ranges: &mut Items<Ranged>,
-) -> Result<Items<Operand>, NoMemory>
+) -> Result<Items<BlockValue>, NoMemory>
     ensures { IfOk result (λ moved. IsIndexWay list.new ranges.new moved
         (moved_all view.now.parent.dims factors.now offsets.now indices.now
         (way list.old ranges.old []))) }
@@ -59,10 +59,10 @@ fn pass_shift(
     list: &mut OperationList,
     alloc: Global,
     view: &ViewMap,
-    offsets: &[Operand],
-    indices: &[Operand],
+    offsets: &[BlockValue],
+    indices: &[BlockValue],
     ranges: &mut Items<Ranged>,
-) -> Result<Items<Operand>, NoMemory>
+) -> Result<Items<BlockValue>, NoMemory>
     ensures { IfOk result (λ moved. IsIndexWay list.new ranges.new moved
         (moved_all view.now.parent.dims (unit_factors view.now.parent.dims) offsets.now indices.now
         (way list.old ranges.old []))) }
@@ -84,10 +84,10 @@ fn pass_view(
     list: &mut OperationList,
     alloc: Global,
     view: &ViewMap,
-    offsets: &[Operand],
-    indices: &[Operand],
+    offsets: &[BlockValue],
+    indices: &[BlockValue],
     ranges: &mut Items<Ranged>,
-) -> Result<Items<Operand>, NoMemory>
+) -> Result<Items<BlockValue>, NoMemory>
     requires { AllByRecursion IsDim view.now.shape.dims }
     ensures { IfOk result (λ inner. IsIndexWay list.new ranges.new inner
         (passed_by view.now.sort view.now offsets.now indices.now list.old ranges.old)) }
@@ -120,9 +120,9 @@ fn pass_step(
     old: &OldBlock<'_>,
     known: &Renumbering,
     step: &ReachStep,
-    indices: Items<Operand>,
+    indices: Items<BlockValue>,
     ranges: &mut Items<Ranged>,
-) -> Result<Items<Operand>, NoMemory>
+) -> Result<Items<BlockValue>, NoMemory>
     requires { AllByRecursion IsViewMap old.now.views.now }
     ensures { IfOk result (λ inner. IsIndexWay list.new ranges.new inner
         (step_passed (around_seen old.now known.now) step.now (way list.old ranges.old indices))) }
@@ -148,9 +148,9 @@ fn pass_steps(
     old: &OldBlock<'_>,
     known: &Renumbering,
     steps: &[ReachStep],
-    indices: Items<Operand>,
+    indices: Items<BlockValue>,
     ranges: &mut Items<Ranged>,
-) -> Result<Items<Operand>, NoMemory>
+) -> Result<Items<BlockValue>, NoMemory>
     requires { AllByRecursion IsViewMap old.now.views.now }
     ensures { IfOk result (λ inner. IsIndexWay list.new ranges.new inner
         (steps_passed (around_seen old.now known.now) steps.now
@@ -169,7 +169,7 @@ fn pass_row(
     known: &Renumbering,
     reach: &Reach,
     row: u64,
-) -> Result<Passed, NoMemory>
+) -> Result<PassedIndices, NoMemory>
     ensures { IfOk result (IsRowPassed (around_seen old.now known.now) reach.now row) }
 {
     let mut ranges = Items::new(old.alloc);
@@ -177,7 +177,7 @@ fn pass_row(
         operand: operand_of(old, known, row),
         size: row_count(dims_in(old.table, reach.memory)),
     })?;
-    Ok(Passed {
+    Ok(PassedIndices {
         ranges,
         indices: Items::new(old.alloc),
     })
@@ -189,7 +189,7 @@ fn pass_indices(
     old: &OldBlock<'_>,
     known: &Renumbering,
     reach: &Reach,
-) -> Result<Passed, NoMemory>
+) -> Result<PassedIndices, NoMemory>
     requires { AllByRecursion IsViewMap old.now.views.now }
     ensures { IfOk result (IsPassedTo (around_seen old.now known.now) reach.now None
         list.old list.new) }
@@ -200,7 +200,7 @@ fn pass_indices(
     let indices = pass_steps(list, old, known, steps, named, &mut ranges)?;
     let dims = dims_in(old.table, reach.memory);
     note_ranges(&mut ranges, dims, indices.as_slice())?;
-    Ok(Passed { ranges, indices })
+    Ok(PassedIndices { ranges, indices })
 }
 
 /// Adds what an access needs before its tests.
@@ -209,7 +209,7 @@ pub fn pass_reach(
     old: &OldBlock<'_>,
     known: &Renumbering,
     reach: &Reach,
-) -> Result<Passed, NoMemory>
+) -> Result<PassedIndices, NoMemory>
     requires { AllByRecursion IsViewMap old.now.views.now }
     ensures { IfOk result (IsReachPassed (around_seen old.now known.now) reach.now
         list.old list.new) }

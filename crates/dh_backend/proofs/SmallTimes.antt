@@ -11,7 +11,7 @@ use Rattle.dh_plan.specs.ScheduleLaws.{without_limits}
 use Rattle.dh_plan.proofs.LeastLengths.{same_clocks, blocks_within, clocks_long, has_least_lengths}
 use Rattle.dh_backend.specs.NetParts.{AreTimesOf}
 use Rattle.dh_backend.specs.SuitedPlans.{AreUpTo, AreWordSized, low_words, TimesAreSmall}
-use Rattle.dh_backend.specs.declared.times.Times.{Times}
+use Rattle.dh_backend.specs.declared.times.BlockTimes.{BlockTimes}
 use Rattle.dh_backend.proofs.ShortBlocks.{least_clocks_early, blocks_are_short}
 
 by_places : (most : ℕ) (ns : List ℕ) → ((k : ℕ) → k < length ns → get_or ns k 0 ≤ most) → AreUpTo most ns
@@ -103,7 +103,7 @@ up_to_words most [] small h = tt
 up_to_words most (n ∷ ns) small h = let l = h.0 in (omega (arith, l, small), up_to_words most ns small h.1)
 
 -- clocks and lengths of a schedule that are few are words
-pub times_told : (plan : PlainPlan) (timing : Timing) (t : Times) → IsLeastSchedule plan without_limits timing → t.clocks ≡ low_words timing.clocks → t.lengths ≡ low_words timing.lengths
+pub times_told : (plan : PlainPlan) (timing : Timing) (t : BlockTimes) → IsLeastSchedule plan without_limits timing → t.clocks ≡ low_words timing.clocks → t.lengths ≡ low_words timing.lengths
     → length t.clocks < 2 ^ 63 → AreTimesOf timing t
 times_told plan timing t h clocks lengths few =
     let long = ap length clocks ∙ length-map timing.clocks (λ n. n % 2 ^ 64) in

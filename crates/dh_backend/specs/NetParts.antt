@@ -17,13 +17,13 @@ use Rattle.dh_backend.specs.OneThread.{GoesWithin}
 use Rattle.dh_backend.specs.SuitedPlans.{FitsNets, AreWordSized}
 use Rattle.dh_backend.specs.declared.parts.NetParts.{NetParts}
 use Rattle.dh_backend.specs.declared.parts.Passed.{Passed}
-use Rattle.dh_backend.specs.declared.times.Times.{Times}
+use Rattle.dh_backend.specs.declared.times.BlockTimes.{BlockTimes}
 
-abbrev pub times_seen : Times → Timing
+abbrev pub times_seen : BlockTimes → Timing
 times_seen t = record { clocks = t.clocks; lengths = t.lengths }
 
 -- they are those of a schedule, in words
-pub record AreTimesOf (timing : Timing) (t : Times) : Type 0 where
+pub record AreTimesOf (timing : Timing) (t : BlockTimes) : Type 0 where
   pub same : times_seen t ≡ timing
   pub clocks : AreWordSized t.clocks
   pub lengths : AreWordSized t.lengths

@@ -13,4 +13,4 @@ pub use laws::{
     plans_keep_ports,
 };
 pub use parts::{NetParts, Passed, parts_of};
-pub use times::{Times, times_of};
+pub use times::{BlockTimes, times_of};

@@ -6,7 +6,7 @@ ghost use Rattle.dh_plan.specs.SeenPlans.{plan_seen};
 ghost use Rattle.dh_backend.specs.NetParts.{ArePartsOf, ArePassed};
 ghost use Rattle.dh_backend.specs.SuitedPlans.{IsCompiled};
 
-use crate::times::{Times, times_of};
+use crate::times::{BlockTimes, times_of};
 use dh_address::addresses;
 use dh_base::NoMemory;
 use dh_bind::bind;
@@ -21,7 +21,7 @@ pub struct Passed {
     /// Its graph of states.
     pub graph: Graph,
     /// Its schedule without limits.
-    pub times: Times,
+    pub times: BlockTimes,
     /// The ports and multipliers of its operations.
     pub binding: Binding,
 }

@@ -14,7 +14,7 @@ use std::alloc::Global;
 
 /// When each operation is done, in clocks of its step from 0, and how long each block is.
 #[derive(Drop)]
-pub struct Times {
+pub struct BlockTimes {
     /// A clock for each operation of the plan.
     pub clocks: Items<u64>,
     /// A length in clocks for each block.
@@ -41,11 +41,11 @@ fn narrow(alloc: Global, numbers: &[u128]) -> Result<Items<u64>, NoMemory>
 /// # Errors
 ///
 /// `NoMemory` where an allocation was refused.
-pub fn times_of(alloc: Global, plan: &Plan, schedule: &Schedule) -> Result<Times, NoMemory>
+pub fn times_of(alloc: Global, plan: &Plan, schedule: &Schedule) -> Result<BlockTimes, NoMemory>
     requires { IsLeastSchedule (plan_seen plan.now) without_limits (timing_seen schedule.now) }
     ensures { IfOk result (AreTimesOf (timing_seen schedule.now)) }
 {
     let clocks = narrow(alloc, schedule.clock_of.as_slice())?;
     let lengths = narrow(alloc, schedule.length.as_slice())?;
-    Ok(Times { clocks, lengths })
+    Ok(BlockTimes { clocks, lengths })
 }

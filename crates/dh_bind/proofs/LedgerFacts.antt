@@ -9,7 +9,7 @@ use Rattle.dh_ledger.specs.declared.ledgers.Full.{Full}
 use Rattle.dh_ledger.specs.Calls.{Grants}
 use Rattle.dh_ledger.specs.Granted.{Granted}
 use Rattle.dh_ledger.specs.Spending.{Spending, spent_on, raised, IsLarger}
-use Rattle.dh_bind.specs.declared.ledgers.Mark.{Mark}
+use Rattle.dh_bind.specs.declared.ledgers.LedgerMark.{LedgerMark}
 use Rattle.dh_bind.specs.Ledgers.{spent_in, spending_ports, spending_banks, spent_at, ports_in, ledger_banks, Alike, SpentMore, GrantsAt, IsMark, AreMarks, undone_ledgers, state_or, ends_now, top, Rises}
 use Rattle.dh_bind.proofs.Driven.{get_set_same, get_set_other, is_not}
 use Rattle.dh_bind.proofs.Flat.{got}
@@ -41,14 +41,14 @@ alike_self a = record { long = refl; ports = λ m. refl; banks = λ m. refl }
 pub alike_then : (a b c : List Spending) → Alike a b → Alike b c → Alike a c
 alike_then a b c x y = record { long = y.long ∙ x.long; ports = λ m. y.ports m ∙ x.ports m; banks = λ m. y.banks m ∙ x.banks m }
 
-pub mark_alike : (a b : List Spending) (k : Mark) → Alike a b → IsMark a k → IsMark b k
+pub mark_alike : (a b : List Spending) (k : LedgerMark) → Alike a b → IsMark a k → IsMark b k
 mark_alike a b k x h = record {
   inside = (let l = x.long in let i = h.inside in omega (arith, l, i));
   ports = h.ports ∙ sym (x.ports k.memory);
   banks = h.banks ∙ sym (x.banks k.memory);
 }
 
-pub marks_alike : (a b : List Spending) (log : List Mark) → Alike a b → AreMarks a log → AreMarks b log
+pub marks_alike : (a b : List Spending) (log : List LedgerMark) → Alike a b → AreMarks a log → AreMarks b log
 marks_alike a b [] x all = tt
 marks_alike a b (k ∷ log) x all = (mark_alike a b k x all.0, marks_alike a b log x all.1)
 
@@ -133,36 +133,36 @@ grants_at ledgers memory bank count s new (Err full) inside e below g =
     (ap (λ (x : Spending). slice_set ledgers memory x) (g.new_is ∙ e) ∙ set-get_or ledgers memory s, omega (arith, number, ports, beyond))
 
 -- one more end
-pub ends_turn : (ledgers : List Spending) (log : List Mark) (i : ℕ) (k : Mark) (s : Spending) (so_far next all : List Mark) → i < length log → k ≡ get_or log i k → AreMarks ledgers log
+pub ends_turn : (ledgers : List Spending) (log : List LedgerMark) (i : ℕ) (k : LedgerMark) (s : Spending) (so_far next all : List LedgerMark) → i < length log → k ≡ get_or log i k → AreMarks ledgers log
     → so_far ++ ends_now ledgers (drop i log) ≡ all → s ≡ get_or ledgers k.memory s → next ≡ so_far ++ record { memory = k.memory; state = s } ∷ [] → next ++ ends_now ledgers (drop (i + 1) log) ≡ all
 ends_turn ledgers log i k s so_far next all h e marks so is f =
-    let own : IsMark ledgers k = subst (λ (x : Mark). IsMark ledgers x) (sym e) (all_get (IsMark ledgers) log i k marks h) in
+    let own : IsMark ledgers k = subst (λ (x : LedgerMark). IsMark ledgers x) (sym e) (all_get (IsMark ledgers) log i k marks h) in
     let found : slice_get ledgers k.memory ≡ Some s = got ledgers k.memory s own.inside is in
-    let rest : drop i log ≡ k ∷ drop (i + 1) log = drop_more log i k h ∙ ap (λ (x : Mark). x ∷ drop (i + 1) log) (sym e) in
-    ap (λ (x : List Mark). x ++ ends_now ledgers (drop (i + 1) log)) f
+    let rest : drop i log ≡ k ∷ drop (i + 1) log = drop_more log i k h ∙ ap (λ (x : LedgerMark). x ∷ drop (i + 1) log) (sym e) in
+    ap (λ (x : List LedgerMark). x ++ ends_now ledgers (drop (i + 1) log)) f
     ∙ (append_assoc so_far (marked k.memory s ∷ []) (ends_now ledgers (drop (i + 1) log))
-    ∙ (ap (λ (x : List Mark). so_far ++ x) (sym (ap (λ (x : List Mark). ends_now ledgers x) rest ∙ ap (λ (x : Option Spending). marked k.memory (state_or x k.state) ∷ ends_now ledgers (drop (i + 1) log)) found)) ∙ so))
+    ∙ (ap (λ (x : List LedgerMark). so_far ++ x) (sym (ap (λ (x : List LedgerMark). ends_now ledgers x) rest ∙ ap (λ (x : Option Spending). marked k.memory (state_or x k.state) ∷ ends_now ledgers (drop (i + 1) log)) found)) ∙ so))
   where
-    marked : (m : ℕ) → Spending → Mark
+    marked : (m : ℕ) → Spending → LedgerMark
     marked m t = record { memory = m; state = t }
 
 -- one change back
-pub back_turn : (log : List Mark) (i : ℕ) (k : Mark) (ledgers start : List Spending) (new : Spending) → 0 < i → i ≤ length log → k ≡ get_or log (i - 1) k → AreMarks start log
+pub back_turn : (log : List LedgerMark) (i : ℕ) (k : LedgerMark) (ledgers start : List Spending) (new : Spending) → 0 < i → i ≤ length log → k ≡ get_or log (i - 1) k → AreMarks start log
     → ledgers ≡ undone_ledgers (drop i log) start → Alike start ledgers → new ≡ k.state
     → (slice_set ledgers k.memory new ≡ undone_ledgers (drop (i - 1) log) start) × Alike start (slice_set ledgers k.memory new)
 back_turn log i k ledgers start new more within e marks so alike is =
     let below : i - 1 < length log = omega (arith, more, within) in
-    let own : IsMark start k = subst (λ (x : Mark). IsMark start x) (sym e) (all_get (IsMark start) log (i - 1) k marks below) in
+    let own : IsMark start k = subst (λ (x : LedgerMark). IsMark start x) (sym e) (all_get (IsMark start) log (i - 1) k marks below) in
     let now : IsMark ledgers k = mark_alike start ledgers k alike own in
     let next : i - 1 + 1 ≡ i = omega (arith, more) in
-    let rest : drop (i - 1) log ≡ k ∷ drop i log = drop_more log (i - 1) k below ∙ (ap (λ (x : Mark). x ∷ drop (i - 1 + 1) log) (sym e) ∙ ap (λ (n : ℕ). k ∷ drop n log) next) in (
-      ap (λ (x : Spending). slice_set ledgers k.memory x) is ∙ (ap (λ (x : List Spending). slice_set x k.memory k.state) so ∙ sym (ap (λ (x : List Mark). undone_ledgers x start) rest)),
+    let rest : drop (i - 1) log ≡ k ∷ drop i log = drop_more log (i - 1) k below ∙ (ap (λ (x : LedgerMark). x ∷ drop (i - 1 + 1) log) (sym e) ∙ ap (λ (n : ℕ). k ∷ drop n log) next) in (
+      ap (λ (x : Spending). slice_set ledgers k.memory x) is ∙ (ap (λ (x : List Spending). slice_set x k.memory k.state) so ∙ sym (ap (λ (x : List LedgerMark). undone_ledgers x start) rest)),
       alike_then start ledgers (slice_set ledgers k.memory new) alike
           (subst (λ (x : Spending). Alike ledgers (slice_set ledgers k.memory x)) (sym is) (alike_set ledgers k.memory k.state now.inside now.ports now.banks)),
     )
 
 -- rising
-pub undone_joined : (a b : List Mark) (ledgers : List Spending) → undone_ledgers (a ++ b) ledgers ≡ undone_ledgers a (undone_ledgers b ledgers)
+pub undone_joined : (a b : List LedgerMark) (ledgers : List Spending) → undone_ledgers (a ++ b) ledgers ≡ undone_ledgers a (undone_ledgers b ledgers)
 undone_joined [] b ledgers = refl
 undone_joined (k ∷ a) b ledgers = ap (λ (x : List Spending). slice_set x k.memory k.state) (undone_joined a b ledgers)
 
@@ -175,19 +175,19 @@ none_most n = grind arith
 most_none : (n : ℕ) → n ≡ max n 0
 most_none n = grind arith
 
-pub top_joined : (a b : List Mark) (memory bank : ℕ) → top (a ++ b) memory bank ≡ max (top a memory bank) (top b memory bank)
+pub top_joined : (a b : List LedgerMark) (memory bank : ℕ) → top (a ++ b) memory bank ≡ max (top a memory bank) (top b memory bank)
 top_joined [] b memory bank = none_most (top b memory bank)
 top_joined (k ∷ a) b memory bank =
     ap (λ (n : ℕ). max (if k.memory == memory then spent_on k.state bank else 0) n) (top_joined a b memory bank)
     ∙ max_regroup (if k.memory == memory then spent_on k.state bank else 0) (top a memory bank) (top b memory bank)
 
-pub top_same : (k : Mark) (memory bank : ℕ) → k.memory ≡ memory → top (k ∷ []) memory bank ≡ spent_on k.state bank
+pub top_same : (k : LedgerMark) (memory bank : ℕ) → k.memory ≡ memory → top (k ∷ []) memory bank ≡ spent_on k.state bank
 top_same k memory bank e = ap (λ (t : Bool). max (if t then spent_on k.state bank else 0) 0) (eq-eqb k.memory memory e) ∙ sym (most_none (spent_on k.state bank))
 
-pub top_other : (k : Mark) (memory bank : ℕ) → (k.memory ≡ memory → ⊥) → top (k ∷ []) memory bank ≡ 0
+pub top_other : (k : LedgerMark) (memory bank : ℕ) → (k.memory ≡ memory → ⊥) → top (k ∷ []) memory bank ≡ 0
 top_other k memory bank f = ap (λ (t : Bool). max (if t then spent_on k.state bank else 0) 0) (is_not k.memory memory f)
 
-pub all_joined : (P : Mark → Type 0) (a b : List Mark) → AllByRecursion P a → AllByRecursion P b → AllByRecursion P (a ++ b)
+pub all_joined : (P : LedgerMark → Type 0) (a b : List LedgerMark) → AllByRecursion P a → AllByRecursion P b → AllByRecursion P (a ++ b)
 all_joined P [] b x y = y
 all_joined P (k ∷ a) b x y = (x.0, all_joined P a b x.1 y)
 
@@ -197,7 +197,7 @@ rise_up n o t k x y e f g = grind (arith, e, f, g)
 rise_past : (n o t y : ℕ) → n ≡ max o t → y ≡ 0 → n ≡ max o (max t y)
 rise_past n o t y e g = grind (arith, e, g)
 
-pub rise_one : (ends : List Mark) (start ledgers : List Spending) (log now : List Mark) (k : Mark) (s state new : Spending) → IsMark start k → s ≡ get_or ledgers k.memory s → state ≡ s
+pub rise_one : (ends : List LedgerMark) (start ledgers : List Spending) (log now : List LedgerMark) (k : LedgerMark) (s state new : Spending) → IsMark start k → s ≡ get_or ledgers k.memory s → state ≡ s
     → IsLarger s k.state new → Rises ends start ledgers log now → Rises (ends ++ k ∷ []) start (slice_set ledgers k.memory new) log (now ++ record { memory = k.memory; state = state } ∷ [])
 rise_one ends start ledgers log now k s state new own e state_is larger so =
     let here : IsMark ledgers k = mark_alike start ledgers k so.alike own in
@@ -214,26 +214,26 @@ rise_one ends start ledgers log now k s state new own e state_is larger so =
             ∙ ap (λ (n : ℕ). max (spent_at start m b) n) (sym (top_joined ends (k ∷ []) m b))
       ];
       more = so.more ++ record { memory = k.memory; state = state } ∷ [];
-      log_is = ap (λ (x : List Mark). x ++ record { memory = k.memory; state = state } ∷ []) so.log_is ∙ append_assoc log so.more (record { memory = k.memory; state = state } ∷ []);
+      log_is = ap (λ (x : List LedgerMark). x ++ record { memory = k.memory; state = state } ∷ []) so.log_is ∙ append_assoc log so.more (record { memory = k.memory; state = state } ∷ []);
       back = undone_joined so.more (record { memory = k.memory; state = state } ∷ []) (slice_set ledgers k.memory new)
           ∙ (ap (λ (x : List Spending). undone_ledgers so.more x) (set-set ledgers k.memory new state ∙ (ap (λ (x : Spending). slice_set ledgers k.memory x) (state_is ∙ e) ∙ set-get_or ledgers k.memory s)) ∙ so.back);
     }
 
-pub rise_turn : (ends : List Mark) (i : ℕ) (start ledgers : List Spending) (log now next : List Mark) (k : Mark) (s state new : Spending) → i < length ends → k ≡ get_or ends i k → AreMarks start ends
+pub rise_turn : (ends : List LedgerMark) (i : ℕ) (start ledgers : List Spending) (log now next : List LedgerMark) (k : LedgerMark) (s state new : Spending) → i < length ends → k ≡ get_or ends i k → AreMarks start ends
     → s ≡ get_or ledgers k.memory s → state ≡ s → IsLarger s k.state new → Rises (take i ends) start ledgers log now → next ≡ now ++ record { memory = k.memory; state = state } ∷ []
     → Rises (take (i + 1) ends) start (slice_set ledgers k.memory new) log next
 rise_turn ends i start ledgers log now next k s state new h e marks is state_is larger so f =
-    let own : IsMark start k = subst (λ (x : Mark). IsMark start x) (sym e) (all_get (IsMark start) ends i k marks h) in
-    subst (λ (x : List Mark). Rises x start (slice_set ledgers k.memory new) log next) (sym (take_more ends i k h ∙ ap (λ (x : Mark). take i ends ++ x ∷ []) (sym e)))
-    (subst (λ (x : List Mark). Rises (take i ends ++ k ∷ []) start (slice_set ledgers k.memory new) log x) (sym f) (rise_one (take i ends) start ledgers log now k s state new own is state_is larger so))
+    let own : IsMark start k = subst (λ (x : LedgerMark). IsMark start x) (sym e) (all_get (IsMark start) ends i k marks h) in
+    subst (λ (x : List LedgerMark). Rises x start (slice_set ledgers k.memory new) log next) (sym (take_more ends i k h ∙ ap (λ (x : LedgerMark). take i ends ++ x ∷ []) (sym e)))
+    (subst (λ (x : List LedgerMark). Rises (take i ends ++ k ∷ []) start (slice_set ledgers k.memory new) log x) (sym f) (rise_one (take i ends) start ledgers log now k s state new own is state_is larger so))
 
-pub marks_turn : (ends : List Mark) (i : ℕ) (start ledgers : List Spending) (now next : List Mark) (k : Mark) (s state : Spending) → i < length ends → k ≡ get_or ends i k → AreMarks start ends
+pub marks_turn : (ends : List LedgerMark) (i : ℕ) (start ledgers : List Spending) (now next : List LedgerMark) (k : LedgerMark) (s state : Spending) → i < length ends → k ≡ get_or ends i k → AreMarks start ends
     → s ≡ get_or ledgers k.memory s → state ≡ s → Alike start ledgers → AreMarks start now → next ≡ now ++ record { memory = k.memory; state = state } ∷ [] → AreMarks start next
 marks_turn ends i start ledgers now next k s state h e marks is state_is alike so f =
-    let own : IsMark start k = subst (λ (x : Mark). IsMark start x) (sym e) (all_get (IsMark start) ends i k marks h) in
+    let own : IsMark start k = subst (λ (x : LedgerMark). IsMark start x) (sym e) (all_get (IsMark start) ends i k marks h) in
     let here : IsMark ledgers k = mark_alike start ledgers k alike own in
     let found : slice_get ledgers k.memory ≡ Some s = got ledgers k.memory s here.inside is in
-    subst (λ (x : List Mark). AreMarks start x) (sym f)
+    subst (λ (x : List LedgerMark). AreMarks start x) (sym f)
     (all_joined (IsMark start) now (record { memory = k.memory; state = state } ∷ []) so (
       record {
         inside = own.inside;

@@ -23,9 +23,9 @@ use Rattle.dh_bind.specs.Drafts.{Draft, all_operations, first_at, draft_uses, al
 use Rattle.dh_bind.specs.Fresh.{fresh}
 use Rattle.dh_bind.specs.Ledgers.{spent_at, ports_in, ledger_banks, AreMarks}
 use Rattle.dh_bind.specs.Standings.{Standing, MeetsWalked, Overdrawn, WalksMeets, IsStanding, IsBegun, PortsArePlaced}
-use Rattle.dh_bind.specs.declared.ledgers.Mark.{Mark}
-use Rattle.dh_bind.specs.declared.walker.Stop.{Stop}
-use Rattle.dh_bind.specs.declared.walker.Stop.TheVariants as stop
+use Rattle.dh_bind.specs.declared.ledgers.LedgerMark.{LedgerMark}
+use Rattle.dh_bind.specs.declared.walker.WalkStop.{WalkStop}
+use Rattle.dh_bind.specs.declared.walker.WalkStop.TheVariants as stop
 use Rattle.dh_bind.proofs.Charged.{use_access, place_charged, load_fits}
 use Rattle.dh_bind.proofs.CostsKnown.{few_ports, all_listed, last_finds}
 use Rattle.dh_bind.proofs.Driven.{listed_fits, port_at}
@@ -160,7 +160,7 @@ module _ (plan : PlainPlan) (may : MayBind plan) (u : Uses) (placed : PortsArePl
 
 -- a walk of which nothing is done yet
 pub new_stands : (plan : Plan) → operations_width (all_operations plan.blocks) ≤ 64 → (c : Costs) → AreCosts (plan_seen plan) c → (d : Draft) → d.plan ≡ plan → d.firsts ≡ replicate (draft_access_count d * draft_width d) None → (ledgers : List Spending) (table : List MemEntry) → ledgers ≡ map fresh table → table ≡ plan.table
-    → (log : List Mark) → log ≡ [] → IsStanding (record { costs = c; ledgers = ledgers; log = log; draft = d })
+    → (log : List LedgerMark) → log ≡ [] → IsStanding (record { costs = c; ledgers = ledgers; log = log; draft = d })
 new_stands plan few c costs d of none ledgers table e f log g =
     let all_ledgers : ledgers ≡ map fresh plan.table = e ∙ ap (λ (t : List MemEntry). map fresh t) f in
     let long : length ledgers ≡ length plan.table = ap (λ (l : List Spending). length l) all_ledgers ∙ length-map plan.table fresh in
@@ -175,11 +175,11 @@ new_stands plan few c costs d of none ledgers table e f log g =
           ∙ (ap (λ (n : ℕ). n * draft_width d) (sym rows) ∙ ap (λ (n : ℕ). length c.memories * n) (sym wide)));
       inside = λ access memory h. (let k = costs.inside access memory h in omega (arith, k, long));
       banks = λ memory h. ap (λ (l : List Spending). ledger_banks l memory) all_ledgers ∙ fresh_banks plan.table memory (let k = h in omega (arith, k, long));
-      marks = subst (λ (l : List Mark). AreMarks ledgers l) (sym g) tt;
+      marks = subst (λ (l : List LedgerMark). AreMarks ledgers l) (sym g) tt;
     }
 
 pub new_begun : (plan : Plan) (c : Costs) → AreCosts (plan_seen plan) c → (d : Draft) → d.plan ≡ plan → (ledgers : List Spending) (table : List MemEntry) → ledgers ≡ map fresh table → table ≡ plan.table
-    → (log : List Mark) → IsBegun plan (record { costs = c; ledgers = ledgers; log = log; draft = d })
+    → (log : List LedgerMark) → IsBegun plan (record { costs = c; ledgers = ledgers; log = log; draft = d })
 new_begun plan c costs d of ledgers table e f log =
     let all_ledgers : ledgers ≡ map fresh plan.table = e ∙ ap (λ (t : List MemEntry). map fresh t) f in
     record {
@@ -190,5 +190,5 @@ new_begun plan c costs d of ledgers table e f log =
     }
 
 -- what a walk answers that finds a bank full
-pub no_stop : (plan : Plan) → MayBind (plan_seen plan) → (start end : Standing) → IsBegun plan start → (e : Stop) → e ≡ stop.Full → WalksMeets (meets_seen plan.meets) start end (Err e) → ⊥
-no_stop plan may start end begun e is walks = never_full plan may start end begun (subst (λ (x : Stop). WalksMeets (meets_seen plan.meets) start end (Err x)) is walks)
+pub no_stop : (plan : Plan) → MayBind (plan_seen plan) → (start end : Standing) → IsBegun plan start → (e : WalkStop) → e ≡ stop.Full → WalksMeets (meets_seen plan.meets) start end (Err e) → ⊥
+no_stop plan may start end begun e is walks = never_full plan may start end begun (subst (λ (x : WalkStop). WalksMeets (meets_seen plan.meets) start end (Err x)) is walks)

@@ -12,8 +12,8 @@ use Rattle.dh_bind.specs.Costs.{Costs, cost, cost_on, memory_of_access}
 use Rattle.dh_bind.specs.Drafts.{first_at, cell_of}
 use Rattle.dh_bind.specs.Ledgers.{spent_at, ports_in, state_or}
 use Rattle.dh_bind.specs.Standings.{Standing, KeepsCostsAndPlan, mark_of, log_marked, count_at, BankCharged, RowCharged, FullAt, MeetsWalked, Overdrawn, ChargesRow, WalksMeets}
-use Rattle.dh_bind.specs.declared.walker.Stop.{Stop}
-use Rattle.dh_bind.specs.declared.walker.Stop.TheVariants as stop
+use Rattle.dh_bind.specs.declared.walker.WalkStop.{WalkStop}
+use Rattle.dh_bind.specs.declared.walker.WalkStop.TheVariants as stop
 use Rattle.dh_bind.proofs.Driven.{is_not}
 use Rattle.dh_bind.proofs.LedgerFacts.{alike_self, alike_then}
 
@@ -195,7 +195,7 @@ row_overdrawn a memory start of_memory full = record {
 }
 
 -- what charging an access answers
-pub charge_ends : (a memory : ℕ) (start mid next : Standing) (r : Result (Unit {0}) Stop) → memory_of_access start.costs.memories a ≡ Some memory → memory < length start.ledgers → mid ≡ log_marked start memory
+pub charge_ends : (a memory : ℕ) (start mid next : Standing) (r : Result (Unit {0}) WalkStop) → memory_of_access start.costs.memories a ≡ Some memory → memory < length start.ledgers → mid ≡ log_marked start memory
     → ChargesRow a memory mid next r → WalksMeets (access a) start next r
 charge_ends a memory start mid next (Ok done) of_memory inside e charges =
     row_walked a memory start next of_memory inside (subst (λ (s : Standing). RowCharged a memory s.costs.wide s next) e charges)

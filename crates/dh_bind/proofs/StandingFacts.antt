@@ -7,7 +7,7 @@ use Rattle.std.proofs.lemmas.Option.{slice_get_past, slice_get-get_or}
 use Rattle.dh_ledger.specs.Granted.{Granted}
 use Rattle.dh_ledger.specs.Spending.{Spending}
 use Rattle.dh_plan.specs.declared.plans.Plan.{Plan}
-use Rattle.dh_bind.specs.declared.ledgers.Mark.{Mark}
+use Rattle.dh_bind.specs.declared.ledgers.LedgerMark.{LedgerMark}
 use Rattle.dh_bind.specs.Costs.{memory_of_access}
 use Rattle.dh_bind.specs.Drafts.{Draft, flattened, first_at, put_first, cell_of, granted_at, operations_rows, operations_width, all_operations}
 use Rattle.dh_bind.specs.Ledgers.{Alike, SpentMore, IsMark, AreMarks, spent_at, ports_in, state_or, spending_ports, spending_banks, undone_ledgers, ends_now}
@@ -42,7 +42,7 @@ memory_inside fields s same is a memory e = subst (λ (x : Standing). memory < l
 pub mark_is : (ledgers : List Spending) (memory : ℕ) (state : Spending) → memory < length ledgers → state ≡ get_or ledgers memory state → record { memory = memory; state = state } ≡ mark_of ledgers memory
 mark_is ledgers memory state h e = ap (λ (x : Option Spending). marked memory (state_or x (record { ports = 0; spent = [] }))) (sym (got ledgers memory state h e))
   where
-    marked : (m : ℕ) → Spending → Mark
+    marked : (m : ℕ) → Spending → LedgerMark
     marked m t = record { memory = m; state = t }
 
 pub mark_stands : (ledgers : List Spending) (memory : ℕ) → memory < length ledgers → IsMark ledgers (mark_of ledgers memory)
@@ -57,16 +57,16 @@ mark_stands ledgers memory h = record { inside = h; ports = of_state (slice_get 
     of_banks (Some s) = refl
 
 -- it is logged
-abbrev pub with_log : Standing → List Mark → Standing
+abbrev pub with_log : Standing → List LedgerMark → Standing
 with_log s log = record { costs = s.costs; ledgers = s.ledgers; log = log; draft = s.draft }
 
-pub logged_is : (fields s : Standing) → fields ≡ s → (memory : ℕ) (state : Spending) (log : List Mark) → memory < length s.ledgers → state ≡ get_or fields.ledgers memory state → log ≡ fields.log ++ record { memory = memory; state = state } ∷ []
+pub logged_is : (fields s : Standing) → fields ≡ s → (memory : ℕ) (state : Spending) (log : List LedgerMark) → memory < length s.ledgers → state ≡ get_or fields.ledgers memory state → log ≡ fields.log ++ record { memory = memory; state = state } ∷ []
     → with_log fields log ≡ log_marked s memory
 logged_is fields s same memory state log h e f =
     let inside : memory < length fields.ledgers = subst (λ (x : Standing). memory < length x.ledgers) (sym same) h in
-    ap (λ (x : List Mark). with_log fields x) (f ∙ ap (λ (x : Mark). fields.log ++ x ∷ []) (mark_is fields.ledgers memory state inside e)) ∙ ap (λ (x : Standing). log_marked x memory) same
+    ap (λ (x : List LedgerMark). with_log fields x) (f ∙ ap (λ (x : LedgerMark). fields.log ++ x ∷ []) (mark_is fields.ledgers memory state inside e)) ∙ ap (λ (x : Standing). log_marked x memory) same
 
-pub logged_stands : (fields s : Standing) → fields ≡ s → IsStanding fields → (memory : ℕ) (state : Spending) (log : List Mark) → memory < length s.ledgers → state ≡ get_or fields.ledgers memory state
+pub logged_stands : (fields s : Standing) → fields ≡ s → IsStanding fields → (memory : ℕ) (state : Spending) (log : List LedgerMark) → memory < length s.ledgers → state ≡ get_or fields.ledgers memory state
     → log ≡ fields.log ++ record { memory = memory; state = state } ∷ [] → IsStanding (with_log fields log)
 logged_stands fields s same is memory state log h e f =
     let inside : memory < length fields.ledgers = subst (λ (x : Standing). memory < length x.ledgers) (sym same) h in
@@ -78,12 +78,12 @@ logged_stands fields s same is memory state log h e f =
       firsts = is.firsts;
       inside = is.inside;
       banks = is.banks;
-      marks = subst (λ (x : List Mark). AreMarks fields.ledgers x) (sym (f ∙ ap (λ (x : Mark). fields.log ++ x ∷ []) (mark_is fields.ledgers memory state inside e)))
+      marks = subst (λ (x : List LedgerMark). AreMarks fields.ledgers x) (sym (f ∙ ap (λ (x : LedgerMark). fields.log ++ x ∷ []) (mark_is fields.ledgers memory state inside e)))
           (all_joined (IsMark fields.ledgers) fields.log (mark_of fields.ledgers memory ∷ []) is.marks (mark_stands fields.ledgers memory inside, tt));
     }
 
 -- ledgers alike, other first ports
-pub stands_then : (fields : Standing) → IsStanding fields → (ledgers : List Spending) (log : List Mark) (draft : Draft) → Alike fields.ledgers ledgers → AreMarks fields.ledgers log → draft.plan ≡ fields.draft.plan → length draft.firsts ≡ length fields.draft.firsts
+pub stands_then : (fields : Standing) → IsStanding fields → (ledgers : List Spending) (log : List LedgerMark) (draft : Draft) → Alike fields.ledgers ledgers → AreMarks fields.ledgers log → draft.plan ≡ fields.draft.plan → length draft.firsts ≡ length fields.draft.firsts
     → IsStanding (record { costs = fields.costs; ledgers = ledgers; log = log; draft = draft })
 stands_then fields is ledgers log draft alike marks plan long = record {
   wide = is.wide ∙ ap (λ (p : Plan). operations_width (all_operations p.blocks)) (sym plan);
@@ -149,22 +149,22 @@ refused fields s same access memory bank count e beyond =
     (subst (λ (n : ℕ). ports_in fields.ledgers memory < spent_at fields.ledgers memory bank + n) e beyond)
 
 -- marks of a part of a log
-pub all_drop : (P : Mark → Type 0) (n : ℕ) (log : List Mark) → AllByRecursion P log → AllByRecursion P (drop n log)
+pub all_drop : (P : LedgerMark → Type 0) (n : ℕ) (log : List LedgerMark) → AllByRecursion P log → AllByRecursion P (drop n log)
 all_drop P zero log all = all
 all_drop P (suc n) [] all = tt
 all_drop P (suc n) (k ∷ log) all = all_drop P n log all.1
 
-pub all_take : (P : Mark → Type 0) (n : ℕ) (log : List Mark) → AllByRecursion P log → AllByRecursion P (take n log)
+pub all_take : (P : LedgerMark → Type 0) (n : ℕ) (log : List LedgerMark) → AllByRecursion P log → AllByRecursion P (take n log)
 all_take P zero log all = tt
 all_take P (suc n) [] all = tt
 all_take P (suc n) (k ∷ log) all = (all.0, all_take P n log all.1)
 
 -- a part is taken back
-pub back_stands : (fields : Standing) → IsStanding fields → (n : ℕ) (ledgers : List Spending) (log : List Mark) → Alike fields.ledgers ledgers → log ≡ take n fields.log → IsStanding (record { costs = fields.costs; ledgers = ledgers; log = log; draft = fields.draft })
+pub back_stands : (fields : Standing) → IsStanding fields → (n : ℕ) (ledgers : List Spending) (log : List LedgerMark) → Alike fields.ledgers ledgers → log ≡ take n fields.log → IsStanding (record { costs = fields.costs; ledgers = ledgers; log = log; draft = fields.draft })
 back_stands fields is n ledgers log alike e =
-    stands_then fields is ledgers log fields.draft alike (subst (λ (x : List Mark). AreMarks fields.ledgers x) (sym e) (all_take (IsMark fields.ledgers) n fields.log is.marks)) refl refl
+    stands_then fields is ledgers log fields.draft alike (subst (λ (x : List LedgerMark). AreMarks fields.ledgers x) (sym e) (all_take (IsMark fields.ledgers) n fields.log is.marks)) refl refl
 
-pub back_taken : (fields s : Standing) → fields ≡ s → IsStanding fields → (n : ℕ) (ledgers : List Spending) (log ends next : List Mark) → ledgers ≡ undone_ledgers (drop n fields.log) fields.ledgers → log ≡ take n fields.log → next ≡ ends ++ ends_now fields.ledgers (drop n fields.log)
+pub back_taken : (fields s : Standing) → fields ≡ s → IsStanding fields → (n : ℕ) (ledgers : List Spending) (log ends next : List LedgerMark) → ledgers ≡ undone_ledgers (drop n fields.log) fields.ledgers → log ≡ take n fields.log → next ≡ ends ++ ends_now fields.ledgers (drop n fields.log)
     → TakenBack n s (record { costs = fields.costs; ledgers = ledgers; log = log; draft = fields.draft }) ends next
 back_taken fields s same is n ledgers log ends next e f g =
     subst (λ (x : Standing). TakenBack n x (record { costs = fields.costs; ledgers = ledgers; log = log; draft = fields.draft }) ends next) same

@@ -7,7 +7,7 @@ use Rattle.std.proofs.lemmas.List.{take_at, drop_at, drop_all}
 use Rattle.std.proofs.Math.Nat.{le-max_left, le-max_right}
 use Rattle.dh_tree.specs.Meets.{Meets, nothing, all, one, load}
 use Rattle.dh_ledger.specs.Spending.{Spending, spent_on}
-use Rattle.dh_bind.specs.declared.ledgers.Mark.{Mark}
+use Rattle.dh_bind.specs.declared.ledgers.LedgerMark.{LedgerMark}
 use Rattle.dh_bind.specs.Costs.{Costs, cost}
 use Rattle.dh_bind.specs.Drafts.{Draft}
 use Rattle.dh_bind.specs.Ledgers.{Alike, IsMark, AreMarks, Rises, spent_at, ports_in, undone_ledgers, ends_now, top, state_or, spent_in, spending_ports, spending_banks, ledger_banks}
@@ -54,9 +54,9 @@ added x y o l r e f = omega (arith, e, f)
 nothing_added : (x : ℕ) → x ≡ x + 0
 nothing_added x = omega arith
 
-nothing_behind : (l : List Mark) → l ≡ l ++ []
+nothing_behind : (l : List LedgerMark) → l ≡ l ++ []
 nothing_behind [] = refl
-nothing_behind (x ∷ l) = ap (λ (m : List Mark). x ∷ m) (nothing_behind l)
+nothing_behind (x ∷ l) = ap (λ (m : List LedgerMark). x ∷ m) (nothing_behind l)
 
 pub walked_none : (c : Costs) (s : Standing) → MeetsWalked c nothing s s
 walked_none c s = record {
@@ -73,7 +73,7 @@ walked_then c l r a b d x y = record {
   keeps = keeps_then a b d x.keeps y.keeps;
   spent = λ m k few. added _ (spent_at b.ledgers m k) (spent_at a.ledgers m k) (load (cost c m k) l) (load (cost c m k) r) (y.spent m k few) (x.spent m k few);
   more = x.more ++ y.more;
-  log = y.log ∙ (ap (λ (z : List Mark). z ++ y.more) x.log ∙ append_assoc a.log x.more y.more);
+  log = y.log ∙ (ap (λ (z : List LedgerMark). z ++ y.more) x.log ∙ append_assoc a.log x.more y.more);
   back = undone_joined x.more y.more d.ledgers ∙ (ap (λ (z : List Spending). undone_ledgers x.more z) y.back ∙ x.back);
   granted = granted_all c a.ledgers b.ledgers l r a.draft.firsts b.draft.firsts d.draft.firsts (λ m k few. x.spent m k few) x.granted y.granted;
 }
@@ -130,14 +130,14 @@ past_end [] n i e = (let j = i in omega (arith, j))
 past_end (s ∷ l) zero i e = (let f : Some s ≡ None = e in cc)
 past_end (s ∷ l) (suc n) i e = past_end l n (let j = i in omega (arith, j)) e
 
-of_get : (ledgers : List Spending) (k : Mark) (bank : ℕ) → k.memory < length ledgers → (x : Option Spending) → slice_get ledgers k.memory ≡ x → spent_on (state_or x k.state) bank ≡ spent_in x bank
+of_get : (ledgers : List Spending) (k : LedgerMark) (bank : ℕ) → k.memory < length ledgers → (x : Option Spending) → slice_get ledgers k.memory ≡ x → spent_on (state_or x k.state) bank ≡ spent_in x bank
 of_get ledgers k bank h None e = absurd (past_end ledgers k.memory h e)
 of_get ledgers k bank h (Some s) e = refl
 
-mark_top : (ledgers : List Spending) (k : Mark) (bank : ℕ) → k.memory < length ledgers → spent_on (state_or (slice_get ledgers k.memory) k.state) bank ≡ spent_at ledgers k.memory bank
+mark_top : (ledgers : List Spending) (k : LedgerMark) (bank : ℕ) → k.memory < length ledgers → spent_on (state_or (slice_get ledgers k.memory) k.state) bank ≡ spent_at ledgers k.memory bank
 mark_top ledgers k bank h = of_get ledgers k bank h (slice_get ledgers k.memory) refl
 
-abbrev pub Topped : List Spending → List Mark → (memory bank : ℕ) → Type 0
+abbrev pub Topped : List Spending → List LedgerMark → (memory bank : ℕ) → Type 0
 Topped ledgers log memory bank =
     (top (ends_now ledgers log) memory bank ≡ spent_at ledgers memory bank)
     ⊎ ((top (ends_now ledgers log) memory bank ≡ 0) × (spent_at (undone_ledgers log ledgers) memory bank ≡ spent_at ledgers memory bank))
@@ -151,16 +151,16 @@ top_both x y n e f = grind (arith, e, f)
 top_past : (x y : ℕ) → x ≡ 0 → max x y ≡ y
 top_past x y e = grind (arith, e)
 
-entry_same : (ledgers : List Spending) (k : Mark) (memory bank : ℕ) → k.memory < length ledgers → k.memory ≡ memory
+entry_same : (ledgers : List Spending) (k : LedgerMark) (memory bank : ℕ) → k.memory < length ledgers → k.memory ≡ memory
     → (if k.memory == memory then spent_on (state_or (slice_get ledgers k.memory) k.state) bank else 0) ≡ spent_at ledgers memory bank
 entry_same ledgers k memory bank h e =
     ap (λ (t : Bool). if t then spent_on (state_or (slice_get ledgers k.memory) k.state) bank else 0) (eq-eqb k.memory memory e)
     ∙ (mark_top ledgers k bank h ∙ ap (λ (n : ℕ). spent_at ledgers n bank) e)
 
-entry_other : (k : Mark) (memory n : ℕ) → (k.memory ≡ memory → ⊥) → (if k.memory == memory then n else 0) ≡ 0
+entry_other : (k : LedgerMark) (memory n : ℕ) → (k.memory ≡ memory → ⊥) → (if k.memory == memory then n else 0) ≡ 0
 entry_other k memory n f = ap (λ (t : Bool). if t then n else 0) (is_not k.memory memory f)
 
-pub topped : (ledgers : List Spending) (log : List Mark) (memory bank : ℕ) → AreMarks ledgers log → Topped ledgers log memory bank
+pub topped : (ledgers : List Spending) (log : List LedgerMark) (memory bank : ℕ) → AreMarks ledgers log → Topped ledgers log memory bank
 topped ledgers [] memory bank every = inr (refl, refl)
 topped ledgers (k ∷ log) memory bank every =
     elim (cases_eq k.memory memory) [
@@ -183,7 +183,7 @@ end_banks : (x : Option Spending) (s : Spending) (n : ℕ) → length s.spent �
 end_banks None s n e f = e
 end_banks (Some t) s n e f = f
 
-pub ends_stand : (ledgers : List Spending) (log : List Mark) → AreMarks ledgers log → AreMarks ledgers (ends_now ledgers log)
+pub ends_stand : (ledgers : List Spending) (log : List LedgerMark) → AreMarks ledgers log → AreMarks ledgers (ends_now ledgers log)
 ends_stand ledgers [] every = tt
 ends_stand ledgers (k ∷ log) every = (
   record {
@@ -206,19 +206,19 @@ part_touched s t n p e f = grind (arith, e, f)
 part_untouched : (s t n p : ℕ) → t ≡ 0 → s ≡ n → n ≡ s + p → max s t ≡ s + p
 part_untouched s t n p e f g = grind (arith, e, f, g)
 
-module _ (whole part rest : Meets) (start now mid next : Standing) (ends then_ends : List Mark) (begun : ℕ) (so : InOne whole (one part rest) start now ends) (step : MeetsWalked now.costs part now mid)
+module _ (whole part rest : Meets) (start now mid next : Standing) (ends then_ends : List LedgerMark) (begun : ℕ) (so : InOne whole (one part rest) start now ends) (step : MeetsWalked now.costs part now mid)
     (taken : TakenBack begun mid next ends then_ends) (begun_is : begun ≡ length start.log) where
   here : MeetsWalked start.costs part now mid
   here = subst (λ (c : Costs). MeetsWalked c part now mid) so.costs step
 
   log_is : mid.log ≡ start.log ++ here.more
-  log_is = here.log ∙ ap (λ (l : List Mark). l ++ here.more) so.log
+  log_is = here.log ∙ ap (λ (l : List LedgerMark). l ++ here.more) so.log
 
   part_log : drop begun mid.log ≡ here.more
-  part_log = ap (λ (l : List Mark). drop begun l) log_is ∙ drop_at start.log here.more begun (sym begun_is)
+  part_log = ap (λ (l : List LedgerMark). drop begun l) log_is ∙ drop_at start.log here.more begun (sym begun_is)
 
   ledgers_back : next.ledgers ≡ start.ledgers
-  ledgers_back = taken.ledgers ∙ (ap (λ (l : List Mark). undone_ledgers l mid.ledgers) part_log ∙ (here.back ∙ so.ledgers))
+  ledgers_back = taken.ledgers ∙ (ap (λ (l : List LedgerMark). undone_ledgers l mid.ledgers) part_log ∙ (here.back ∙ so.ledgers))
 
   mid_alike : Alike mid.ledgers start.ledgers
   mid_alike = alike_back start.ledgers mid.ledgers (subst (λ (l : List Spending). Alike l mid.ledgers) so.ledgers here.keeps.alike)
@@ -238,12 +238,12 @@ module _ (whole part rest : Meets) (start now mid next : Standing) (ends then_en
     costs = taken.costs ∙ (here.keeps.costs ∙ so.costs);
     plan = ap (λ (d : Draft). d.plan) taken.draft ∙ (here.keeps.plan ∙ so.plan);
     ledgers = ledgers_back;
-    log = taken.log ∙ (ap (λ (l : List Mark). take begun l) log_is ∙ take_at start.log here.more begun (sym begun_is));
-    marks = subst (λ (l : List Mark). AreMarks start.ledgers l) (sym taken.noted)
+    log = taken.log ∙ (ap (λ (l : List LedgerMark). take begun l) log_is ∙ take_at start.log here.more begun (sym begun_is));
+    marks = subst (λ (l : List LedgerMark). AreMarks start.ledgers l) (sym taken.noted)
         (all_joined (IsMark start.ledgers) ends (ends_now mid.ledgers (drop begun mid.log)) so.marks
         (marks_alike mid.ledgers start.ledgers (ends_now mid.ledgers (drop begun mid.log)) mid_alike (ends_stand mid.ledgers (drop begun mid.log) taken.marks)));
     tops = λ m b few. ap (λ (n : ℕ). max (max (spent_at start.ledgers m b) n) (spent_at start.ledgers m b + load (cost start.costs m b) rest))
-        (ap (λ (l : List Mark). top l m b) taken.noted ∙ top_joined ends (ends_now mid.ledgers (drop begun mid.log)) m b)
+        (ap (λ (l : List LedgerMark). top l m b) taken.noted ∙ top_joined ends (ends_now mid.ledgers (drop begun mid.log)) m b)
         ∙ tops_turn (spent_at start.ledgers m b) (top ends m b) _ (load (cost start.costs m b) part) (load (cost start.costs m b) rest) (load (cost start.costs m b) whole) (part_top m b few) (so.tops m b few);
     loads = λ m b. (let h = so.loads m b in let k = le-max_right (load (cost start.costs m b) part) (load (cost start.costs m b) rest) in omega (arith, h, k));
     so = λ firsts g. so.so firsts (granted_one start.costs start.ledgers part rest now.draft.firsts mid.draft.firsts firsts
@@ -254,7 +254,7 @@ module _ (whole part rest : Meets) (start now mid next : Standing) (ends then_en
 risen : (n s t w : ℕ) → n ≡ max s t → max (max s t) (s + 0) ≡ s + w → n ≡ s + w
 risen n s t w e f = grind (arith, e, f)
 
-pub one_done : (whole : Meets) (start now next : Standing) (ends : List Mark) → InOne whole nothing start now ends → Rises ends now.ledgers next.ledgers now.log next.log → next.costs ≡ now.costs → next.draft ≡ now.draft
+pub one_done : (whole : Meets) (start now next : Standing) (ends : List LedgerMark) → InOne whole nothing start now ends → Rises ends now.ledgers next.ledgers now.log next.log → next.costs ≡ now.costs → next.draft ≡ now.draft
     → MeetsWalked start.costs whole start next
 one_done whole start now next ends so rises costs draft = record {
   keeps = record {
@@ -265,7 +265,7 @@ one_done whole start now next ends so rises costs draft = record {
   spent = λ m b few. risen _ (spent_at start.ledgers m b) (top ends m b) (load (cost start.costs m b) whole)
       (rises.spent m b ∙ ap (λ (l : List Spending). max (spent_at l m b) (top ends m b)) so.ledgers) (so.tops m b few);
   more = rises.more;
-  log = rises.log_is ∙ ap (λ (l : List Mark). l ++ rises.more) so.log;
+  log = rises.log_is ∙ ap (λ (l : List LedgerMark). l ++ rises.more) so.log;
   back = rises.back ∙ so.ledgers;
   granted = so.so next.draft.firsts (subst (λ (d : Draft). GrantedIn start.costs start.ledgers nothing now.draft.firsts d.firsts) (sym draft) (granted_none start.costs start.ledgers now.draft.firsts));
 }
@@ -273,7 +273,7 @@ one_done whole start now next ends so rises costs draft = record {
 over_one : (q n x y w : ℕ) → q < n + x → x ≤ y → y ≤ w → q < n + w
 over_one q n x y w e f g = omega (arith, e, f, g)
 
-pub one_overdrawn : (whole part rest : Meets) (start now : Standing) (ends : List Mark) → InOne whole (one part rest) start now ends → Overdrawn now.costs part now → Overdrawn start.costs whole start
+pub one_overdrawn : (whole part rest : Meets) (start now : Standing) (ends : List LedgerMark) → InOne whole (one part rest) start now ends → Overdrawn now.costs part now → Overdrawn start.costs whole start
 one_overdrawn whole part rest start now ends so over =
     let there : Overdrawn start.costs part now = subst (λ (c : Costs). Overdrawn c part now) so.costs over in
     record {
@@ -292,14 +292,14 @@ all_part whole parts i part start now next h e so step =
     all_turn whole (meets_seen part) (alls (drop (i + 1) parts)) start now next
     (subst (λ (l : List Tree). InAll whole (alls l) start now) (rest_is parts i part h e) so) step
 
-pub one_part : (whole : Meets) (parts : List Tree) (i : ℕ) (part : Tree) (start now mid next : Standing) (ends then_ends : List Mark) (begun : ℕ) → i < length parts → part ≡ get_or parts i part
+pub one_part : (whole : Meets) (parts : List Tree) (i : ℕ) (part : Tree) (start now mid next : Standing) (ends then_ends : List LedgerMark) (begun : ℕ) → i < length parts → part ≡ get_or parts i part
     → InOne whole (ones (drop i parts)) start now ends → MeetsWalked now.costs (meets_seen part) now mid → TakenBack begun mid next ends then_ends → begun ≡ length start.log → InOne whole (ones (drop (i + 1) parts)) start next then_ends
 one_part whole parts i part start now mid next ends then_ends begun h e so step taken begun_is =
     one_turn whole (meets_seen part) (ones (drop (i + 1) parts)) start now mid next ends then_ends begun
     (subst (λ (l : List Tree). InOne whole (ones l) start now ends) (rest_is parts i part h e) so) step taken begun_is
 
-pub one_ended : (whole : Meets) (parts : List Tree) (i : ℕ) (start now next : Standing) (ends same_ends : List Mark) → length parts ≤ i → InOne whole (ones (drop i parts)) start now ends → same_ends ≡ ends
+pub one_ended : (whole : Meets) (parts : List Tree) (i : ℕ) (start now next : Standing) (ends same_ends : List LedgerMark) → length parts ≤ i → InOne whole (ones (drop i parts)) start now ends → same_ends ≡ ends
     → Rises same_ends now.ledgers next.ledgers now.log next.log → next.costs ≡ now.costs → next.draft ≡ now.draft → MeetsWalked start.costs whole start next
 one_ended whole parts i start now next ends same_ends h so e rises costs draft =
     one_done whole start now next ends (subst (λ (l : List Tree). InOne whole (ones l) start now ends) (drop_all i parts h) so)
-    (subst (λ (l : List Mark). Rises l now.ledgers next.ledgers now.log next.log) e rises) costs draft
+    (subst (λ (l : List LedgerMark). Rises l now.ledgers next.ledgers now.log next.log) e rises) costs draft

@@ -4,7 +4,7 @@ use Rattle.std.specs.List.{AllByRecursion}
 use Rattle.dh_ledger.specs.declared.ledgers.Full.{Full}
 use Rattle.dh_ledger.specs.Granted.{Granted}
 use Rattle.dh_ledger.specs.Spending.{Spending, spent_on}
-use Rattle.dh_bind.specs.declared.ledgers.Mark.{Mark}
+use Rattle.dh_bind.specs.declared.ledgers.LedgerMark.{LedgerMark}
 
 abbrev pub spent_in : Option Spending → (bank : ℕ) → ℕ
 spent_in None bank = 0
@@ -47,16 +47,16 @@ GrantsAt old new memory bank count (Ok token) =
 GrantsAt old new memory bank count (Err full) = (new ≡ old) × (ports_in old memory < spent_at old memory bank + count)
 
 -- a mark is of one of these ledgers
-pub record IsMark (ledgers : List Spending) (k : Mark) : Type 0 where
+pub record IsMark (ledgers : List Spending) (k : LedgerMark) : Type 0 where
   pub inside : k.memory < length ledgers
   pub ports : k.state.ports ≡ ports_in ledgers k.memory
   pub banks : length k.state.spent ≡ ledger_banks ledgers k.memory
 
-abbrev pub AreMarks : List Spending → List Mark → Type 0
+abbrev pub AreMarks : List Spending → List LedgerMark → Type 0
 AreMarks ledgers log = AllByRecursion (IsMark ledgers) log
 
 -- the ledgers before the changes of a log, in which each mark is of the state before its change
-abbrev pub undone_ledgers : List Mark → List Spending → List Spending
+abbrev pub undone_ledgers : List LedgerMark → List Spending → List Spending
 undone_ledgers [] ledgers = ledgers
 undone_ledgers (k ∷ ks) ledgers = slice_set (undone_ledgers ks ledgers) k.memory k.state
 
@@ -65,19 +65,19 @@ state_or None s = s
 state_or (Some t) s = t
 
 -- marks of the same memories, with the present states
-abbrev pub ends_now : List Spending → List Mark → List Mark
+abbrev pub ends_now : List Spending → List LedgerMark → List LedgerMark
 ends_now ledgers [] = []
 ends_now ledgers (k ∷ ks) = record { memory = k.memory; state = state_or (slice_get ledgers k.memory) k.state } ∷ ends_now ledgers ks
 
 -- the most that is spent on a bank by marks
-abbrev pub top : List Mark → (memory bank : ℕ) → ℕ
+abbrev pub top : List LedgerMark → (memory bank : ℕ) → ℕ
 top [] memory bank = 0
 top (k ∷ ks) memory bank = max (if k.memory == memory then spent_on k.state bank else 0) (top ks memory bank)
 
 -- each bank rises to the most of the marks, and a log says what was before
-pub record Rises (ends : List Mark) (old new : List Spending) (log then_log : List Mark) : Type 0 where
+pub record Rises (ends : List LedgerMark) (old new : List Spending) (log then_log : List LedgerMark) : Type 0 where
   pub alike : Alike old new
   pub spent : (memory bank : ℕ) → spent_at new memory bank ≡ max (spent_at old memory bank) (top ends memory bank)
-  pub more : List Mark
+  pub more : List LedgerMark
   pub log_is : then_log ≡ log ++ more
   pub back : undone_ledgers more new ≡ old

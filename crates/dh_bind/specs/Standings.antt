@@ -3,9 +3,9 @@ use Rattle.std.specs.Prelude.{◌≡◌, ℕ, ◌+◌, ◌*◌, ◌<◌, ◌≤�
 use Rattle.dh_ledger.specs.Spending.{Spending}
 use Rattle.dh_tree.specs.Meets.{Meets, In, Distinct, load}
 use Rattle.dh_plan.specs.SeenPlans.{plan_seen}
-use Rattle.dh_bind.specs.declared.ledgers.Mark.{Mark}
-use Rattle.dh_bind.specs.declared.walker.Stop.{Stop}
-use Rattle.dh_bind.specs.declared.walker.Stop.TheVariants as stop
+use Rattle.dh_bind.specs.declared.ledgers.LedgerMark.{LedgerMark}
+use Rattle.dh_bind.specs.declared.walker.WalkStop.{WalkStop}
+use Rattle.dh_bind.specs.declared.walker.WalkStop.TheVariants as stop
 use Rattle.dh_bind.specs.Begins.{begin}
 use Rattle.dh_tree.specs.Elements.{ports_at}
 use Rattle.dh_plan.specs.declared.plans.Plan.{Plan}
@@ -20,7 +20,7 @@ use Rattle.dh_bind.specs.Ledgers.{Alike, SpentMore, AreMarks, spent_at, ports_in
 pub record Standing : Type 0 where
   pub costs : Costs
   pub ledgers : List Spending
-  pub log : List Mark
+  pub log : List LedgerMark
   pub draft : Draft
 
 -- what always holds of it
@@ -41,7 +41,7 @@ pub record KeepsCostsAndPlan (old new : Standing) : Type 0 where
   pub alike : Alike old.ledgers new.ledgers
 
 -- where a memory's ledger stands, as a mark
-abbrev pub mark_of : List Spending → (memory : ℕ) → Mark
+abbrev pub mark_of : List Spending → (memory : ℕ) → LedgerMark
 mark_of ledgers memory = record { memory = memory; state = state_or (slice_get ledgers memory) (record { ports = 0; spent = [] }) }
 
 -- it is logged
@@ -60,7 +60,7 @@ pub record BankCharged (wide access memory bank : ℕ) (old new : Standing) : Ty
   pub others : (a b : ℕ) → b < wide → ((a ≡ access) × (b ≡ bank) → ⊥) → first_at wide new.draft.firsts a b ≡ first_at wide old.draft.firsts a b
   pub own : 0 < count_at old access bank → first_at wide new.draft.firsts access bank ≡ Some (spent_at old.ledgers memory bank)
 
-abbrev pub ChargesBank : (access memory bank : ℕ) → (old new : Standing) → Result (Unit {0}) Stop → Type 0
+abbrev pub ChargesBank : (access memory bank : ℕ) → (old new : Standing) → Result (Unit {0}) WalkStop → Type 0
 ChargesBank access memory bank old new (Ok done) = BankCharged old.costs.wide access memory bank old new
 ChargesBank access memory bank old new (Err stop.NoMemory) = Unit {0}
 ChargesBank access memory bank old new (Err stop.Full) = ports_in old.ledgers memory < spent_at old.ledgers memory bank + count_at old access bank
@@ -80,7 +80,7 @@ pub record FullAt (access memory : ℕ) (old : Standing) : Type 0 where
   pub few : bank < old.costs.wide
   pub beyond : ports_in old.ledgers memory < spent_at old.ledgers memory bank + count_at old access bank
 
-abbrev pub ChargesRow : (access memory : ℕ) → (old new : Standing) → Result (Unit {0}) Stop → Type 0
+abbrev pub ChargesRow : (access memory : ℕ) → (old new : Standing) → Result (Unit {0}) WalkStop → Type 0
 ChargesRow access memory old new (Ok done) = RowCharged access memory old.costs.wide old new
 ChargesRow access memory old new (Err stop.NoMemory) = Unit {0}
 ChargesRow access memory old new (Err stop.Full) = FullAt access memory old
@@ -98,7 +98,7 @@ pub record MeetsWalked (c : Costs) (t : Meets) (old new : Standing) : Type 0 whe
   -- each bank is loaded with the part's load
   pub spent : (m b : ℕ) → b < c.wide → spent_at new.ledgers m b ≡ spent_at old.ledgers m b + load (cost c m b) t
   -- the log says how to come back
-  pub more : List Mark
+  pub more : List LedgerMark
   pub log : new.log ≡ old.log ++ more
   pub back : undone_ledgers more new.ledgers ≡ old.ledgers
   pub granted : GrantedIn c old.ledgers t old.draft.firsts new.draft.firsts
@@ -110,7 +110,7 @@ pub record Overdrawn (c : Costs) (t : Meets) (old : Standing) : Type 0 where
   pub few : bank < c.wide
   pub beyond : ports_in old.ledgers memory < spent_at old.ledgers memory bank + load (cost c memory bank) t
 
-abbrev pub WalksMeets : Meets → (old new : Standing) → Result (Unit {0}) Stop → Type 0
+abbrev pub WalksMeets : Meets → (old new : Standing) → Result (Unit {0}) WalkStop → Type 0
 WalksMeets t old new (Ok done) = MeetsWalked old.costs t old new
 WalksMeets t old new (Err stop.NoMemory) = Unit {0}
 WalksMeets t old new (Err stop.Full) = Overdrawn old.costs t old
@@ -124,7 +124,7 @@ pub record InAll (whole rest : Meets) (start now : Standing) : Type 0 where
 -- Parts of which no two meet.
 
 -- the changes of a part are taken back, and marks noted of where it ended
-pub record TakenBack (begun : ℕ) (old new : Standing) (ends then_ends : List Mark) : Type 0 where
+pub record TakenBack (begun : ℕ) (old new : Standing) (ends then_ends : List LedgerMark) : Type 0 where
   pub costs : new.costs ≡ old.costs
   pub draft : new.draft ≡ old.draft
   pub log : new.log ≡ take begun old.log
@@ -133,7 +133,7 @@ pub record TakenBack (begun : ℕ) (old new : Standing) (ends then_ends : List M
   pub noted : then_ends ≡ ends ++ ends_now old.ledgers (drop begun old.log)
 
 -- what is still to be walked of a `one`, and that it leads to the whole
-pub record InOne (whole rest : Meets) (start now : Standing) (ends : List Mark) : Type 0 where
+pub record InOne (whole rest : Meets) (start now : Standing) (ends : List LedgerMark) : Type 0 where
   pub costs : now.costs ≡ start.costs
   pub plan : now.draft.plan ≡ start.draft.plan
   pub ledgers : now.ledgers ≡ start.ledgers

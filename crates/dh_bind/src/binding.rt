@@ -8,7 +8,7 @@ ghost use Rattle.dh_plan.specs.SeenPlans.{plan_seen};
 ghost use Rattle.dh_bind.specs.Standings.{PortsArePlaced};
 
 use crate::units::units_of;
-use crate::walker::{Stop, Walker};
+use crate::walker::{WalkStop, Walker};
 use crate::walks::walk;
 use dh_base::{Items, NoMemory};
 use dh_plan::{Binding, Plan, Schedule};
@@ -22,8 +22,8 @@ pub fn ports_of(alloc: Global, plan: &Plan) -> Result<Items<Items<(u32, u32)>>, 
     let mut walker = Walker::new(alloc, plan)?;
     match walk(&mut walker, alloc, &plan.meets) {
         Ok(()) => walker.ports(alloc),
-        Err(Stop::NoMemory) => Err(NoMemory),
-        Err(Stop::Full) => unreachable!(),
+        Err(WalkStop::NoMemory) => Err(NoMemory),
+        Err(WalkStop::Full) => unreachable!(),
     }
 }
 

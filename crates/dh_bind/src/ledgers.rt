@@ -13,7 +13,7 @@ use std::alloc::Global;
 
 /// The state of a memory's ledger.
 #[derive(Drop)]
-pub struct Mark {
+pub struct LedgerMark {
     /// The memory.
     pub memory: u32,
     /// The state.
@@ -37,14 +37,14 @@ pub fn grant_at(
 /// Adds marks of the memories of a log, with their present states.
 pub fn note_ends(
     ledgers: &[CountLedger],
-    log: &[Mark],
-    ends: &mut Vec<Mark>,
+    log: &[LedgerMark],
+    ends: &mut Vec<LedgerMark>,
 ) -> Result<(), NoMemory>
     requires { AreMarks ledgers.now log.now }
     ensures { OnOk result (ends.new.items ≡ ends.old.items ++ ends_now ledgers.now log.now) }
 {
     for mark in log {
-        ends.push(Mark {
+        ends.push(LedgerMark {
             memory: mark.memory,
             state: ledgers[mark.memory as usize].mark(),
         })?;
@@ -53,7 +53,7 @@ pub fn note_ends(
 }
 
 /// Makes the ledgers what they were before the changes of a log.
-pub fn go_back(ledgers: &mut [CountLedger], log: &[Mark])
+pub fn go_back(ledgers: &mut [CountLedger], log: &[LedgerMark])
     requires { AreMarks ledgers.old log.now }
     ensures back { ledgers.new ≡ undone_ledgers log.now ledgers.old }
     ensures alike { Alike ledgers.old ledgers.new }
@@ -65,7 +65,11 @@ pub fn go_back(ledgers: &mut [CountLedger], log: &[Mark])
 }
 
 /// Gives each bank the most that marks spend on it, and logs what was before.
-pub fn rise(ledgers: &mut [CountLedger], ends: &[Mark], log: &mut Vec<Mark>) -> Result<(), NoMemory>
+pub fn rise(
+    ledgers: &mut [CountLedger],
+    ends: &[LedgerMark],
+    log: &mut Vec<LedgerMark>,
+) -> Result<(), NoMemory>
     requires { AreMarks ledgers.old ends.now }
     ensures rises { OnOk result (Rises ends.now ledgers.old ledgers.new
         log.old.items log.new.items) }
@@ -74,7 +78,7 @@ pub fn rise(ledgers: &mut [CountLedger], ends: &[Mark], log: &mut Vec<Mark>) -> 
 {
     for end in ends {
         let ledger = &mut ledgers[end.memory as usize];
-        log.push(Mark {
+        log.push(LedgerMark {
             memory: end.memory,
             state: ledger.mark(),
         })?;
@@ -98,7 +102,7 @@ pub fn grant_in(
 }
 
 /// `go_back` of a vector, to where a log was so long, and the log is cut there.
-pub fn back_to(ledgers: &mut Vec<CountLedger>, log: &mut Vec<Mark>, begun: usize)
+pub fn back_to(ledgers: &mut Vec<CountLedger>, log: &mut Vec<LedgerMark>, begun: usize)
     requires begun { begun ≤ length log.old.items }
     requires marks { AreMarks ledgers.old.items log.old.items }
     ensures back { ledgers.new.items ≡ undone_ledgers (drop begun log.old.items) ledgers.old.items }
@@ -112,8 +116,8 @@ pub fn back_to(ledgers: &mut Vec<CountLedger>, log: &mut Vec<Mark>, begun: usize
 /// `rise` of a vector.
 pub fn rise_in(
     ledgers: &mut Vec<CountLedger>,
-    ends: &[Mark],
-    log: &mut Vec<Mark>,
+    ends: &[LedgerMark],
+    log: &mut Vec<LedgerMark>,
 ) -> Result<(), NoMemory>
     requires { AreMarks ledgers.old.items ends.now }
     ensures rises { OnOk result

@@ -9,7 +9,7 @@ ghost use Rattle.dh_bind.specs.Ledgers.{AreMarks, Rises};
 
 use crate::binder::Binder;
 use crate::costs::{CostTables, costs_of};
-use crate::ledgers::{Mark, back_to, grant_in, ledgers_of, note_ends, rise_in};
+use crate::ledgers::{LedgerMark, back_to, grant_in, ledgers_of, note_ends, rise_in};
 use crate::tables::places;
 use dh_base::{Items, NoMemory};
 use dh_ledger::{CountLedger, Ledger};
@@ -19,7 +19,7 @@ use std::marker::Model;
 
 /// Why a walk stops.
 #[derive(Clone, Copy)]
-pub enum Stop {
+pub enum WalkStop {
     /// Want of memory.
     NoMemory,
     /// A bank is charged beyond its ports.
@@ -34,7 +34,7 @@ pub struct Walker<'a> {
     memories: Vec<Option<u32>>,
     counts: Vec<u32>,
     ledgers: Vec<CountLedger>,
-    log: Vec<Mark>,
+    log: Vec<LedgerMark>,
 }
 
 impl<'a> Model for Walker<'a> {
@@ -135,12 +135,17 @@ impl<'a> Walker<'a> {
         ensures { OnOk result (self.new ≡ log_marked self.old memory) }
     {
         let state = self.ledgers[memory as usize].mark();
-        self.log.push(Mark { memory, state })?;
+        self.log.push(LedgerMark { memory, state })?;
         Ok(())
     }
 
     /// Grants an access the ports that it charges on a bank.
-    pub(crate) fn charge_bank(&mut self, access: u32, memory: u32, bank: u32) -> Result<(), Stop>
+    pub(crate) fn charge_bank(
+        &mut self,
+        access: u32,
+        memory: u32,
+        bank: u32,
+    ) -> Result<(), WalkStop>
         requires row { access < length self.old.costs.memories }
         requires memory { memory < length self.old.ledgers }
         requires bank { bank < self.old.costs.wide }
@@ -155,7 +160,7 @@ impl<'a> Walker<'a> {
                 self.binder.drive(token, access);
                 Ok(())
             }
-            Err(_) => Err(Stop::Full),
+            Err(_) => Err(WalkStop::Full),
         }
     }
 
@@ -167,7 +172,11 @@ impl<'a> Walker<'a> {
     }
 
     /// Takes back all that was logged since, and notes where it ended.
-    pub(crate) fn take_back(&mut self, begun: usize, ends: &mut Vec<Mark>) -> Result<(), NoMemory>
+    pub(crate) fn take_back(
+        &mut self,
+        begun: usize,
+        ends: &mut Vec<LedgerMark>,
+    ) -> Result<(), NoMemory>
         requires { begun ≤ length self.old.log }
         ensures { OnOk result (TakenBack begun self.old self.new ends.old.items ends.new.items) }
     {
@@ -177,7 +186,7 @@ impl<'a> Walker<'a> {
     }
 
     /// Raises each bank to the greatest of the ends.
-    pub(crate) fn raise(&mut self, ends: &[Mark]) -> Result<(), NoMemory>
+    pub(crate) fn raise(&mut self, ends: &[LedgerMark]) -> Result<(), NoMemory>
         requires { AreMarks self.old.ledgers ends.now }
         ensures rises { OnOk result
             (Rises ends.now self.old.ledgers self.new.ledgers self.old.log self.new.log) }

@@ -7,12 +7,12 @@ ghost use Rattle.dh_bind.specs.Costs.{memory_of_access};
 ghost use Rattle.dh_bind.specs.Standings.{ChargesRow, WalksMeets};
 ghost use Rattle.dh_plan.specs.SeenPlans.{alls, ones};
 
-use crate::walker::{Stop, Walker};
+use crate::walker::{WalkStop, Walker};
 use dh_plan::Meets;
 use std::alloc::Global;
 
 /// Grants an access the ports that it charges on the banks that are listed.
-fn charge_row(walker: &mut Walker, access: u32, memory: u32) -> Result<(), Stop>
+fn charge_row(walker: &mut Walker, access: u32, memory: u32) -> Result<(), WalkStop>
     requires row { access < length walker.old.costs.memories }
     requires inside { memory < length walker.old.ledgers }
     requires memory { memory_of_access walker.old.costs.memories access ≡ Some memory }
@@ -25,13 +25,13 @@ fn charge_row(walker: &mut Walker, access: u32, memory: u32) -> Result<(), Stop>
 }
 
 /// Grants an access the ports that it charges.
-fn charge(walker: &mut Walker, access: u32) -> Result<(), Stop>
+fn charge(walker: &mut Walker, access: u32) -> Result<(), WalkStop>
     ensures { WalksMeets (meets_access access) walker.old walker.new result }
 {
     match walker.memory_of(access) {
         Some(memory) => {
             let Ok(()) = walker.note(memory) else {
-                return Err(Stop::NoMemory);
+                return Err(WalkStop::NoMemory);
             };
             charge_row(walker, access, memory)
         }
@@ -41,7 +41,7 @@ fn charge(walker: &mut Walker, access: u32) -> Result<(), Stop>
 
 /// Walks parts, one behind the other.
 #[cycle(walk)]
-fn walk_all(walker: &mut Walker, alloc: Global, parts: &[Meets]) -> Result<(), Stop>
+fn walk_all(walker: &mut Walker, alloc: Global, parts: &[Meets]) -> Result<(), WalkStop>
     ensures { WalksMeets (alls parts.now) walker.old walker.new result }
 {
     for part in parts {
@@ -52,7 +52,7 @@ fn walk_all(walker: &mut Walker, alloc: Global, parts: &[Meets]) -> Result<(), S
 
 /// Walks parts of which no two meet: each from where they all begin.
 #[cycle(walk)]
-fn walk_one(walker: &mut Walker, alloc: Global, parts: &[Meets]) -> Result<(), Stop>
+fn walk_one(walker: &mut Walker, alloc: Global, parts: &[Meets]) -> Result<(), WalkStop>
     ensures { WalksMeets (ones parts.now) walker.old walker.new result }
 {
     let begun = walker.logged();
@@ -60,11 +60,11 @@ fn walk_one(walker: &mut Walker, alloc: Global, parts: &[Meets]) -> Result<(), S
     for part in parts {
         walk(walker, alloc, part)?;
         let Ok(()) = walker.take_back(begun, &mut ends) else {
-            return Err(Stop::NoMemory);
+            return Err(WalkStop::NoMemory);
         };
     }
     let Ok(()) = walker.raise(ends.as_slice()) else {
-        return Err(Stop::NoMemory);
+        return Err(WalkStop::NoMemory);
     };
     Ok(())
 }
@@ -72,7 +72,7 @@ fn walk_one(walker: &mut Walker, alloc: Global, parts: &[Meets]) -> Result<(), S
 /// Walks a tree.
 #[cycle(walk)]
 #[tactic(auto, using(dh_plan::proofs::SeenMeets::meets_are))]
-pub fn walk(walker: &mut Walker, alloc: Global, tree: &Meets) -> Result<(), Stop>
+pub fn walk(walker: &mut Walker, alloc: Global, tree: &Meets) -> Result<(), WalkStop>
     ensures { WalksMeets (meets_seen tree.now) walker.old walker.new result }
 {
     match tree {

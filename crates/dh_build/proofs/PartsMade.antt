@@ -22,7 +22,7 @@ use Rattle.dh_datapath.specs.declared.blocks.PlanWires.{PlanWires}
 use Rattle.dh_datapath.specs.BlockWires.{PlanAdded, ShowsPlan}
 use Rattle.dh_datapath.specs.RegistersShown.{HasRegisters}
 use Rattle.dh_control.specs.declared.controlling.Control.{Control}
-use Rattle.dh_control.specs.declared.controlling.Own.{Own}
+use Rattle.dh_control.specs.declared.controlling.ControlRegisters.{ControlRegisters}
 use Rattle.dh_control.specs.declared.driving.MemoryPorts.{MemoryPorts}
 use Rattle.dh_control.specs.declared.gathering.Keyed.{Keyed}
 use Rattle.dh_control.specs.AllBlocks.{ChecksSuit, SetsSuit}
@@ -32,14 +32,14 @@ use Rattle.dh_control.specs.WayMoves.{HoldsStates}
 use Rattle.dh_control.specs.WireLists.{EachTells}
 use Rattle.dh_control.proofs.ListFacts.{at_index}
 use Rattle.dh_build.specs.BuiltParts.{net_widths, OwnShows, OwnAdded, ShownAdded, IsTimed, DriversAdded}
-use Rattle.dh_build.specs.declared.building.Shown.{Shown}
+use Rattle.dh_build.specs.declared.building.ShownWires.{ShownWires}
 use Rattle.dh_build.specs.declared.building.Sizes.{Sizes}
 use Rattle.dh_build.specs.DrivenUsers.{UsesDriven, UsesSuit, plan_times}
 use Rattle.dh_build.specs.MemoryTables.{AreMemoryPorts}
 
 -- The net's own registers.
 
-pub own_later : (d e : PlainCircuit) (own : Own) → Grows d e → OwnShows d own → OwnShows e own
+pub own_later : (d e : PlainCircuit) (own : ControlRegisters) → Grows d e → OwnShows d own → OwnShows e own
 own_later d e own g h = record {
   clock = shows_later d e own.clock own.clock_width (register_shown 0) g h.clock;
   tick = shows_later d e own.tick 1 (register_shown 1) g h.tick;
@@ -47,7 +47,7 @@ own_later d e own g h = record {
   state = shows_later d e own.state own.state_width (register_shown 3) g h.state;
 }
 
-abbrev pub own_of : (clock_width clock tick fault state_width state : ℕ) → Own
+abbrev pub own_of : (clock_width clock tick fault state_width state : ℕ) → ControlRegisters
 own_of clock_width clock tick fault state_width state = record { clock_width = clock_width; clock = clock; tick = tick; fault = fault; state_width = state_width; state = state }
 
 pub own_made : (a b c d e : PlainCircuit) (clock_width clock tick fault state_width state : ℕ) → Adds a b clock clock_width (register_shown 0) → Adds b c tick 1 (register_shown 1) → Adds c d fault 32 (register_shown 2)
@@ -83,7 +83,7 @@ has_registers d plan s widths are kinds = record {
       ∙ (slice_get-map width_of plan.registers r ∙ ap (λ (o : Option Kind). option_map width_of o) (slice_get-get_or plan.registers r kind.Bool less)));
 }
 
-pub shown_made : (a b c : PlainCircuit) (plan : PlainPlan) (u : Uses) (s : Sizes) (own : Own) (wires : PlanWires) → OwnAdded a b s.clock_width s.state_width own → PlanAdded b c plan u 4 wires
+pub shown_made : (a b c : PlainCircuit) (plan : PlainPlan) (u : Uses) (s : Sizes) (own : ControlRegisters) (wires : PlanWires) → OwnAdded a b s.clock_width s.state_width own → PlanAdded b c plan u 4 wires
     → ShownAdded a c plan u s (record { own = own; wires = wires })
 shown_made a b c plan u s own wires h p = record {
   grows = grows_then a b c h.grows p.grows;
@@ -96,7 +96,7 @@ shown_made a b c plan u s own wires h p = record {
 
 -- Control.
 
-pub own_wires : (d : PlainCircuit) (plan : PlainPlan) (s : Sizes) (own : Own) (states : ℕ) → OwnShows d own → own.state_width ≡ s.state_width → HoldsStates s.state_width states → OwnWires d own states
+pub own_wires : (d : PlainCircuit) (plan : PlainPlan) (s : Sizes) (own : ControlRegisters) (states : ℕ) → OwnShows d own → own.state_width ≡ s.state_width → HoldsStates s.state_width states → OwnWires d own states
 own_wires d plan s own states h is holds = record {
   clock_wire = h.clock.there;
   fault_wire = h.fault.there;
@@ -125,7 +125,7 @@ sets_as d widths widths_now wires wires_now blocks blocks_now e f g h =
 pub checks_as : (d : PlainCircuit) (wires wires_now : List ℕ) (blocks blocks_now : List PlanBlock) → wires_now ≡ wires → blocks_now ≡ blocks → ChecksSuit d wires blocks → ChecksSuit d wires_now blocks_now
 checks_as d wires wires_now blocks blocks_now f g h = subst (λ (l : List ℕ). ChecksSuit d l blocks_now) (sym f) (subst (λ (l : List PlanBlock). ChecksSuit d wires l) (sym g) h)
 
-pub control_as : (d e : PlainCircuit) (own : Own) (widths widths_now registers registers_now wires wires_now : List ℕ) (blocks blocks_now : List PlanBlock) (states : List State) (lengths lengths_now : List ℕ) (c : Control)
+pub control_as : (d e : PlainCircuit) (own : ControlRegisters) (widths widths_now registers registers_now wires wires_now : List ℕ) (blocks blocks_now : List PlanBlock) (states : List State) (lengths lengths_now : List ℕ) (c : Control)
     → widths_now ≡ widths → registers_now ≡ registers → wires_now ≡ wires → blocks_now ≡ blocks → lengths_now ≡ lengths
     → ControlMade d e own widths_now registers_now wires_now blocks_now states lengths_now c → ControlMade d e own widths registers wires blocks states lengths c
 control_as d e own widths widths_now registers registers_now wires wires_now blocks blocks_now states lengths lengths_now c p q r s t h =
@@ -135,7 +135,7 @@ control_as d e own widths widths_now registers registers_now wires wires_now blo
     (subst (λ (l : List PlanBlock). ControlMade d e own widths_now registers_now wires_now l states lengths c) s
     (subst (λ (l : List ℕ). ControlMade d e own widths_now registers_now wires_now blocks_now states l c) t h))))
 
-pub timed : (d e : PlainCircuit) (plan : PlainPlan) (own : Own) (widths registers wires : List ℕ) (blocks : List PlanBlock) (states : List State) (lengths : List ℕ) (c : Control) → blocks ≡ plan.blocks
+pub timed : (d e : PlainCircuit) (plan : PlainPlan) (own : ControlRegisters) (widths registers wires : List ℕ) (blocks : List PlanBlock) (states : List State) (lengths : List ℕ) (c : Control) → blocks ≡ plan.blocks
     → ControlMade d e own widths registers wires blocks states lengths c → IsTimed e plan c
 timed d e plan own widths registers wires blocks states lengths c is h =
     let count = ap (λ (l : List PlanBlock). length l) is in
@@ -164,7 +164,7 @@ pub suits_as : (d : PlainCircuit) (plan : PlainPlan) (u : Uses) (kinds kinds_now
 suits_as d plan u kinds kinds_now wires wires_now ms e f h =
     subst (λ (l : List Kind). UsesSuit d plan u l wires_now ms) (sym e) (subst (λ (l : List ℕ). UsesSuit d plan u kinds l ms) (sym f) h)
 
-module _ (a b e : PlainCircuit) (plan : PlainPlan) (u : Uses) (s : Sizes) (w : Shown) (c : Control) (at : List ℕ) (before drivers : List (Keyed Driver)) where
+module _ (a b e : PlainCircuit) (plan : PlainPlan) (u : Uses) (s : Sizes) (w : ShownWires) (c : Control) (at : List ℕ) (before drivers : List (Keyed Driver)) where
   pub drivers_made : (kinds : List Kind) (wires active commits numbers clocks : List ℕ) → kinds ≡ w.wires.kinds → wires ≡ w.wires.values → active ≡ c.activity.active → commits ≡ c.outcome.commits → numbers ≡ at → clocks ≡ s.clocks
       → EachTells a b (match_shown w.own.clock) s.longest at → before ≡ [] → UsesDriven b e plan u kinds wires (plan_times plan active commits numbers clocks) before drivers → DriversAdded a e plan u s w c drivers
   drivers_made kinds wires active commits numbers clocks k v x y z t h none driven = record {

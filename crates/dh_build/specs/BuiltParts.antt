@@ -15,13 +15,13 @@ use Rattle.dh_cells.specs.Settled.{Grows, Shows, AreWires}
 use Rattle.dh_cells.specs.ShownValues.{match_shown, register_shown}
 use Rattle.dh_datapath.specs.BlockWires.{ShowsPlan}
 use Rattle.dh_control.specs.declared.controlling.Control.{Control}
-use Rattle.dh_control.specs.declared.controlling.Own.{Own}
+use Rattle.dh_control.specs.declared.controlling.ControlRegisters.{ControlRegisters}
 use Rattle.dh_control.specs.declared.gathering.Keyed.{Keyed}
 use Rattle.dh_control.specs.ControlsWhole.{ControlMade}
 use Rattle.dh_control.specs.ThreadHolds.{own_registers}
 use Rattle.dh_control.specs.WayMoves.{HoldsStates}
 use Rattle.dh_build.specs.declared.building.Parts.{Parts}
-use Rattle.dh_build.specs.declared.building.Shown.{Shown}
+use Rattle.dh_build.specs.declared.building.ShownWires.{ShownWires}
 use Rattle.dh_build.specs.declared.building.Sizes.{Sizes}
 use Rattle.dh_build.specs.DrivenUsers.{UsesDriven, plan_times}
 
@@ -56,20 +56,20 @@ pub record CanMakeNet (plan : PlainPlan) (u : Uses) (states : List State) : Type
   pub ways : AllByRecursion (λ st. FitsThread (length states) (length plan.registers) st.next) states
 
 -- wires that show the net's own registers
-pub record OwnShows (d : PlainCircuit) (own : Own) : Type 0 where
+pub record OwnShows (d : PlainCircuit) (own : ControlRegisters) : Type 0 where
   pub clock : Shows d own.clock own.clock_width (register_shown 0)
   pub tick : Shows d own.tick 1 (register_shown 1)
   pub fault : Shows d own.fault 32 (register_shown 2)
   pub state : Shows d own.state own.state_width (register_shown 3)
 
-pub record OwnAdded (old new : PlainCircuit) (clock_width state_width : ℕ) (own : Own) : Type 0 where
+pub record OwnAdded (old new : PlainCircuit) (clock_width state_width : ℕ) (own : ControlRegisters) : Type 0 where
   pub grows : Grows old new
   pub clock_width_is : own.clock_width ≡ clock_width
   pub state_width_is : own.state_width ≡ state_width
   pub shows : OwnShows new own
 
 -- wires of the net's registers and of the plan's values were added
-pub record ShownAdded (old new : PlainCircuit) (plan : PlainPlan) (u : Uses) (s : Sizes) (w : Shown) : Type 0 where
+pub record ShownAdded (old new : PlainCircuit) (plan : PlainPlan) (u : Uses) (s : Sizes) (w : ShownWires) : Type 0 where
   pub grows : Grows old new
   pub clock_width_is : w.own.clock_width ≡ s.clock_width
   pub state_width_is : w.own.state_width ≡ s.state_width
@@ -85,7 +85,7 @@ pub record IsTimed (d : PlainCircuit) (plan : PlainPlan) (c : Control) : Type 0 
   pub commits_long : length c.outcome.commits ≡ length plan.blocks
 
 -- drivers of all that a plan's operations use were added
-pub record DriversAdded (old new : PlainCircuit) (plan : PlainPlan) (u : Uses) (s : Sizes) (w : Shown) (c : Control) (drivers : List (Keyed Driver)) : Type 0 where
+pub record DriversAdded (old new : PlainCircuit) (plan : PlainPlan) (u : Uses) (s : Sizes) (w : ShownWires) (c : Control) (drivers : List (Keyed Driver)) : Type 0 where
   pub grows : Grows old new
   -- a wire for each clock of a step
   pub at : List ℕ

@@ -11,7 +11,7 @@ use crate::drivers::push_uses;
 use crate::memories::list_memories;
 use dh_base::{Items, NoMemory};
 use dh_cells::Circuit;
-use dh_control::{Control, Keyed, Own, push_control, push_numbers};
+use dh_control::{Control, ControlRegisters, Keyed, push_control, push_numbers};
 use dh_datapath::{PlanWires, push_blocks};
 use dh_net::Driver;
 use dh_plan::{Binding, Plan, State};
@@ -36,9 +36,9 @@ pub struct Sizes {
 
 /// Wires of registers and values.
 #[derive(Drop)]
-pub struct Shown {
+pub struct ShownWires {
     /// The registers of the net's own.
-    pub own: Own,
+    pub own: ControlRegisters,
     /// The plan's registers and values.
     pub wires: PlanWires,
 }
@@ -47,7 +47,7 @@ pub struct Shown {
 #[derive(Drop)]
 pub struct Parts {
     /// The wires of its registers and values.
-    pub shown: Shown,
+    pub shown: ShownWires,
     /// Its control.
     pub control: Control,
     /// The drivers of its ports in order of operations, each under the number of its port.
@@ -55,7 +55,11 @@ pub struct Parts {
 }
 
 /// Adds wires that show the net's own registers.
-fn push_own(circuit: &mut Circuit, clock_width: u8, state_width: u8) -> Result<Own, NoMemory>
+fn push_own(
+    circuit: &mut Circuit,
+    clock_width: u8,
+    state_width: u8,
+) -> Result<ControlRegisters, NoMemory>
     requires clock_width { IsWidth clock_width }
     requires state_width { IsWidth state_width }
     requires clock { slice_get circuit.old.widths 0 ≡ Some clock_width }
@@ -68,7 +72,7 @@ fn push_own(circuit: &mut Circuit, clock_width: u8, state_width: u8) -> Result<O
     let tick = circuit.push_register(1, 1)?;
     let fault = circuit.push_register(32, 2)?;
     let state = circuit.push_register(state_width, 3)?;
-    Ok(Own {
+    Ok(ControlRegisters {
         clock_width,
         clock,
         tick,
@@ -86,7 +90,7 @@ fn push_shown(
     binding: &Binding,
     states: &[State],
     sizes: &Sizes,
-) -> Result<Shown, NoMemory>
+) -> Result<ShownWires, NoMemory>
     requires over { IsOver circuit.old (plan_seen plan.now) sizes.now }
     requires sizes { AreSizes (plan_seen plan.now) (length states.now) sizes.now }
     requires can { CanMakeNet (plan_seen plan.now) (uses_seen binding.now) states.now }
@@ -95,7 +99,7 @@ fn push_shown(
 {
     let own = push_own(circuit, sizes.clock_width, sizes.state_width)?;
     let wires = push_blocks(alloc, circuit, plan, binding, 4)?;
-    Ok(Shown { own, wires })
+    Ok(ShownWires { own, wires })
 }
 
 /// Adds the drivers of what the operations of a plan use, behind its control.
@@ -106,7 +110,7 @@ fn push_drivers(
     binding: &Binding,
     states: &[State],
     sizes: &Sizes,
-    shown: &Shown,
+    shown: &ShownWires,
     control: &Control,
 ) -> Result<Items<Keyed<Driver>>, NoMemory>
     requires sizes { AreSizes (plan_seen plan.now) (length states.now) sizes.now }

@@ -15,7 +15,7 @@ mod sizing;
 
 pub use assembling::{list_nexts, list_registers};
 pub use beginning::{begin, list_initials};
-pub use building::{Parts, Shown, Sizes, push_parts};
+pub use building::{Parts, ShownWires, Sizes, push_parts};
 pub use drivers::{list_drivers, push_uses};
 pub use joining::{Joints, build_thread, net_drivers, net_registers, start_circuit};
 pub use laws::{

@@ -21,7 +21,7 @@ pub enum Sought {
 
 /// What is kept of a wire. A wire that has no number of 32 bits is in no chain.
 #[derive(Clone, Copy)]
-struct Link {
+struct ChainLink {
     // The latest cell of the chain over it.
     latest: u32,
     // The cell before its own one, in the chain of that.
@@ -32,7 +32,7 @@ struct Link {
 /// so what is found is to be looked at.
 #[derive(Drop)]
 pub struct Chains {
-    links: Vec<Link>,
+    links: Vec<ChainLink>,
 }
 
 /// The greatest wire that a form takes.
@@ -100,11 +100,11 @@ fn short(wire: usize) -> u32 {
 }
 
 // Makes the cell the latest one over a wire, and answers the one before it.
-fn lead(links: &mut [Link], taken: u64, cell: u32) -> u32 {
+fn lead(links: &mut [ChainLink], taken: u64, cell: u32) -> u32 {
     let at = taken as usize;
     if at < links.len() {
-        let Link { latest, before } = links[at];
-        links[at] = Link {
+        let ChainLink { latest, before } = links[at];
+        links[at] = ChainLink {
             latest: cell,
             before,
         };
@@ -135,7 +135,7 @@ impl Chains {
 
     /// Adds the next wire, whose cell is in no chain.
     pub fn add(&mut self) -> Result<(), NoMemory> {
-        self.links.push(Link {
+        self.links.push(ChainLink {
             latest: NONE,
             before: NONE,
         })?;
@@ -146,7 +146,7 @@ impl Chains {
     pub fn add_over(&mut self, taken: u64) -> Result<(), NoMemory> {
         let cell = short(self.links.len());
         let before = lead(self.links.as_mut_slice(), taken, cell);
-        self.links.push(Link {
+        self.links.push(ChainLink {
             latest: NONE,
             before,
         })?;

@@ -17,7 +17,7 @@ use Rattle.dh_tree.specs.Seen.{terms}
 use Rattle.dh_tree.specs.ViewOffsets.{offsets_of}
 use Rattle.dh_meaning.specs.CoreOf.{entity_number, way_of}
 use Rattle.dh_meaning.specs.Ways.{Hidden, hidden_in}
-use Rattle.dh_code.specs.declared.places.Held.{Held}
+use Rattle.dh_code.specs.declared.places.VariableSlots.{VariableSlots}
 use Rattle.dh_code.specs.Extended.{extension_of}
 use Rattle.dh_tree.specs.Kinds.{same_kind}
 use Rattle.dh_code.specs.Slots.{held_at}
@@ -55,7 +55,7 @@ use Rattle.dh_charged.proofs.TermsSee.{aim_sees, converted_sees, held_sees, numb
 
 -- Registers of an arm are those of what stands round it.
 
-seen_same : (c : Option Counter) (held : Held) (a b : Around) (n : ℕ) → a.levels.now ≡ b.levels.now → register_seen c held (lane_of a n) ≡ register_seen c held (lane_of b n)
+seen_same : (c : Option Counter) (held : VariableSlots) (a b : Around) (n : ℕ) → a.levels.now ≡ b.levels.now → register_seen c held (lane_of a n) ≡ register_seen c held (lane_of b n)
 seen_same None held a b n e = ap (λ (levels : List Level). min (held.first + rank_number levels held.depth n) (2 ^ 64 - 1)) e
 seen_same (Some c) held a b n e = refl
 
@@ -164,7 +164,7 @@ module _ (scene : Scene) (Sees Target : ℕ → Type 0) (Named : Ref → Type 0)
     operand_sees t (kind.Unsigned w) value old new v m = held_sees Sees t (kind.Unsigned w) value old new v m
     operand_sees t (kind.Signed w) value old new v m = held_sees Sees t (kind.Signed w) value old new v m
 
-    folded_sees : (current : List (Option ℕ)) (held : Held) (op : Op) (t : Term) (value : ℕ) (old new : Draft) (v : ℕ) → Sees (register_at held (lane_of around n)) → FoldedWith (lane_of around n) current held op t value old new v
+    folded_sees : (current : List (Option ℕ)) (held : VariableSlots) (op : Op) (t : Term) (value : ℕ) (old new : Draft) (v : ℕ) → Sees (register_at held (lane_of around n)) → FoldedWith (lane_of around n) current held op t value old new v
         → AddsSeeing Sees old new
     folded_sees current held op t value old new v sees m =
         seeing_again Sees old m.first new (shown_sees Sees current (register_at held (lane_of around n)) sees old m.first m.before m.shown)

@@ -3,7 +3,6 @@ use Rattle.std.proofs.Common.{◌≡◌, ℕ, inl, inr, true, false, List, [], R
 use Rattle.std.specs.Prelude.{IsErrAnd}
 use Rattle.dh_base.specs.declared.faults.PassFault.{PassFault}
 use Rattle.dh_base.specs.declared.faults.PassFault.TheVariants as pass
-use Rattle.dh_tree.specs.declared.trees.typed.Typed.{Typed}
 use Rattle.dh_tree.specs.LeastBreach.{breach}
 use Rattle.dh_tree.specs.PlainTrees.{Program}
 use Rattle.dh_ports.specs.Told.{TellsPorts}
@@ -13,6 +12,7 @@ use Rattle.dh_meaning.specs.CoreOf.{core_of}
 use Rattle.dh_sound.specs.KeptPorts.{IsNeverStuck}
 use Rattle.dh_sound.specs.Standing.{BlocksKeepPorts}
 use Rattle.dh_check.specs.declared.checking.CheckFault.{CheckFault}
+use Rattle.dh_check.specs.declared.checking.CountedProgram.{CountedProgram}
 use Rattle.dh_check.specs.Acceptance.{IsSoundProgram}
 use Rattle.dh_check.specs.Ready.{of_pass, CheckGoesOn, TellsText}
 use Rattle.dh_check.specs.Verdicts.{accepts, refuses, IsVerdict, FaultTells, ChecksWithoutPorts}
@@ -30,9 +30,11 @@ refused_by text p (pass.Refused rule place) goes first = goes true (refuses rule
 pub sound_still : (p a : Program) → a ≡ p → BlocksKeepPorts (core_of p) → IsNeverStuck p → IsSoundProgram a
 sound_still p a same blocks never_stuck = subst (λ (x : Program). IsSoundProgram x) (sym same) (record { blocks = blocks; never_stuck = never_stuck })
 
-pub without_ports : (text : List ℕ) (r : Result Typed CheckFault) → TellsText text r → ChecksWithoutPorts text r
-without_ports text (Ok t) h = (h.1 false (accepts (program_seen t)) refl, h.0)
-without_ports text (Err e) h = h false
+pub without_ports : (text : List ℕ) (c : CountedProgram) → TellsText text (Ok c) → ChecksWithoutPorts text (Ok c.typed)
+without_ports text c h = (h.1 false (accepts (program_seen c.typed)) refl, h.0)
+
+pub fault_without_ports : (text : List ℕ) (e : CheckFault) → TellsText text (Err e) → ChecksWithoutPorts text (Err e)
+fault_without_ports text e h = h false
 
 -- a fault that is handed on
 pub handed_on : {A : Type 0} (P : Result A CheckFault → Type 0) (r : Result A CheckFault) (e : CheckFault) → IsErrAnd r (λ f. f ≡ e) → P (Err e) → P r

@@ -9,7 +9,6 @@ use Rattle.dh_types.specs.Programs as kinds
 use Rattle.dh_base.specs.declared.places.Place.{Place}
 use Rattle.dh_base.specs.declared.rules.Rule.{Rule}
 use Rattle.dh_tree.specs.declared.breaches.Breach.{Breach}
-use Rattle.dh_tree.specs.declared.trees.typed.Typed.{Typed}
 use Rattle.dh_tree.specs.LeastBreach.{IsLeast, breach}
 use Rattle.dh_tree.specs.PlainTrees.{Program}
 use Rattle.dh_tree.specs.Breaches.{breaches_of, KeepsNames}
@@ -31,6 +30,7 @@ use Rattle.dh_tree.proofs.TypedForms as typing
 use Rattle.dh_tree.proofs.TypedTexts as typing_texts
 use Rattle.dh_viewing.proofs.KeptViews.{first_none, second_none}
 use Rattle.dh_check.specs.declared.checking.CheckFault.{CheckFault}
+use Rattle.dh_check.specs.declared.checking.CountedProgram.{CountedProgram}
 use Rattle.dh_check.specs.declared.checking.CheckFault.TheVariants as fault
 use Rattle.dh_check.specs.Ready.{of_pass, CheckGoesOn, Stops, TellsShapes, TellsNamed, TellsTree}
 use Rattle.dh_check.specs.Verdicts.{Verdict, refuses, exceeds, Passes, JudgedLast, JudgedLimits, JudgedTyped, JudgedTree}
@@ -64,24 +64,24 @@ after_places : (ports : Bool) (p : Program) (v : Verdict) → KeepsKinds p → s
 after_places ports p v keeps within few h = after_limits ports p v None keeps within few h
 
 -- a rule on shapes, indices, bounds, views or places is broken, or a limit on memories is exceeded
-shapes_stop : (p : Program) (e : CheckFault) → KeepsKinds p → TellsShapes {A = Unit {0}} p (Err e) → Stops (λ ports v. JudgedTyped ports p v) e
-shapes_stop p (fault.Refused r place) keeps (inl h) =
+shapes_stop : (A : Type 0) (p : Program) (e : CheckFault) → KeepsKinds p → TellsShapes {A = A} p (Err e) → Stops (λ ports v. JudgedTyped ports p v) e
+shapes_stop A p (fault.Refused r place) keeps (inl h) =
     λ ports. after_kinds ports p (refuses r place) keeps (refused_at (shapes_breaches_of p) r place (JudgedLimits ports p (first_excess p) (refuses r place)) h)
-shapes_stop p (fault.Refused r place) keeps (inr h) =
+shapes_stop A p (fault.Refused r place) keeps (inr h) =
     λ ports. after_places ports p (refuses r place) keeps h.shapes h.limits (refused_at (placement_breaches p) r place (JudgedLast ports p (refuses r place)) h.least)
-shapes_stop p (fault.TooLarge limit count) keeps h =
+shapes_stop A p (fault.TooLarge limit count) keeps h =
     let x : Excess = record { limit = limit; count = count } in
     λ ports. after_limits ports p (exceeds x) (Some x) keeps h.0 h.1 refl
-shapes_stop p fault.NoMemory keeps h = λ ports. tt
+shapes_stop A p fault.NoMemory keeps h = λ ports. tt
 
 -- the same of the typed program; `t` and `s` are that program as the code holds it
-pub named_stops : (p t s : Program) (e : CheckFault) → t ≡ typed p → s ≡ t → KeepsKinds t → TellsShapes {A = Unit {0}} s (Err e) → Stops (λ ports v. JudgedTyped ports (typed p) v) e
-named_stops p t s e same again keeps h =
-    subst (λ (x : Program). Stops (λ ports v. JudgedTyped ports x v) e) same (shapes_stop t e keeps (subst (λ (x : Program). TellsShapes {A = Unit {0}} x (Err e)) again h))
+pub named_stops : (A : Type 0) (p t s : Program) (e : CheckFault) → t ≡ typed p → s ≡ t → KeepsKinds t → TellsShapes {A = A} s (Err e) → Stops (λ ports v. JudgedTyped ports (typed p) v) e
+named_stops A p t s e same again keeps h =
+    subst (λ (x : Program). Stops (λ ports v. JudgedTyped ports x v) e) same (shapes_stop A t e keeps (subst (λ (x : Program). TellsShapes {A = A} x (Err e)) again h))
 
 -- what has passed them is ready, and goes on to its ports
-is_ready : (p t : Program) → t ≡ typed p → IsOfText most_tokens p → unbuilt_forms p ≡ [] → KeepsNames t → HasEntities t → HasKinds t → KeepsKinds t → TellsShapes {A = Unit {0}} t (Ok tt) → IsReady t
-is_ready p t same of_text built names entities kinds suits shapes = record {
+is_ready : {A : Type 0} (p t : Program) (a : A) → t ≡ typed p → IsOfText most_tokens p → unbuilt_forms p ≡ [] → KeepsNames t → HasEntities t → HasKinds t → KeepsKinds t → TellsShapes {A = A} t (Ok a) → IsReady t
+is_ready p t a same of_text built names entities kinds suits shapes = record {
   of_text = subst (λ (x : Program). IsOfText most_tokens x) (sym same) (typing.of_text_kept most_tokens p (typing_texts.widths_kept p of_text.widths) of_text);
   built = ap unbuilt_forms same ∙ (typing_texts.unbuilt_forms_kept p ∙ built);
   names = names;
@@ -94,13 +94,13 @@ is_ready p t same of_text built names entities kinds suits shapes = record {
   placements = shapes.1.1;
 }
 
-pub named_ready : (p t s : Program) → t ≡ typed p → s ≡ t → IsOfText most_tokens p → unbuilt_forms p ≡ [] → KeepsNames t → HasEntities t → HasKinds t → KeepsKinds t → TellsShapes {A = Unit {0}} s (Ok tt)
+pub named_ready : {A : Type 0} (p t s : Program) (a : A) → t ≡ typed p → s ≡ t → IsOfText most_tokens p → unbuilt_forms p ≡ [] → KeepsNames t → HasEntities t → HasKinds t → KeepsKinds t → TellsShapes {A = A} s (Ok a)
     → (t ≡ typed p) × (IsReady (typed p) × CheckGoesOn (λ ports v. JudgedTyped ports (typed p) v) (typed p))
-named_ready p t s same again of_text built names entities kinds suits h =
-    let shapes : TellsShapes {A = Unit {0}} t (Ok tt) = subst (λ (x : Program). TellsShapes {A = Unit {0}} x (Ok tt)) again h in (
+named_ready {A} p t s a same again of_text built names entities kinds suits h =
+    let shapes : TellsShapes {A = A} t (Ok a) = subst (λ (x : Program). TellsShapes {A = A} x (Ok a)) again h in (
       same,
       subst (λ (x : Program). IsReady x × CheckGoesOn (λ ports v. JudgedTyped ports x v) x) same (
-        is_ready p t same of_text built names entities kinds suits shapes,
+        is_ready p t a same of_text built names entities kinds suits shapes,
         λ ports v j. after_places ports t v suits shapes.0 shapes.1.0 (passed (placement_breaches t) v (JudgedLast ports t v) shapes.1.1 j),
       ),
     )
@@ -124,9 +124,9 @@ tree_named ports p q v e same keeps h =
     let P : Program → Type 0 = λ y. JudgedTyped ports (typed y) v in
     forms_passed ports p v e (inr (keeps, subst P same h))
 
-pub tells_tree : (p q : Program) (r : Result Typed CheckFault) → unbuilt_forms p ≡ [] → q ≡ resolved p → KeepsNames p
+pub tells_tree : (p q : Program) (r : Result CountedProgram CheckFault) → unbuilt_forms p ≡ [] → q ≡ resolved p → KeepsNames p
     → TellsNamed q r → TellsTree p r
-tells_tree p q (Ok t) e same keeps h = (
+tells_tree p q (Ok c) e same keeps h = (
   subst (λ (x : Program). IsReady x) (sym h.0) h.1.0,
   λ ports v j. tree_named ports p q v e same keeps (h.1.1 ports v (subst (λ (x : Program). JudgedLast ports x v) h.0 j)),
 )

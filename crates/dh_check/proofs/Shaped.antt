@@ -12,7 +12,6 @@ use Rattle.dh_tree.specs.PlainTrees.{Program}
 use Rattle.dh_tree.specs.Told.{MayTellLeast}
 use Rattle.dh_tree.specs.ViewBreaches.{shapes_breaches_of}
 use Rattle.dh_tree.proofs.FirstBreaches.{none_is_kept, least_is_kept}
-use Rattle.dh_views.specs.Wanting.{WantsForViews}
 use Rattle.dh_check.specs.declared.checking.CheckFault.{CheckFault}
 use Rattle.dh_check.specs.declared.checking.CheckFault.TheVariants as fault
 use Rattle.dh_check.specs.Ready.{of_pass, TellsShapes}
@@ -27,22 +26,21 @@ no_excess None h = refl
 no_excess (Some first) h = absurd h
 
 -- the first of these passes refuses
-pub shapes_refused : (p : Program) (e : PassFault) → MayTellLeast {A = Option Breach} (shapes_breaches_of p) (Err e) → WantsForViews {A = Option Breach} p (Err e)
-    → TellsShapes {A = Unit {0}} p (Err (of_pass e))
-shapes_refused p (pass.Refused rule place) h wanted = inl h
-shapes_refused p pass.NoMemory h wanted = wanted
+pub shapes_refused : (A B : Type 0) (p : Program) (e : PassFault) → MayTellLeast {A = A} (shapes_breaches_of p) (Err e) → TellsShapes {A = B} p (Err (of_pass e))
+shapes_refused A B p (pass.Refused rule place) h = inl h
+shapes_refused A B p pass.NoMemory h = tt
 
 -- the second
-pub limits_refused : (p : Program) (x : Excess) → shapes_breaches_of p ≡ [] → TellsExcess {A = Unit {0}} (first_excess p) (Err x) → TellsShapes {A = Unit {0}} p (Err (fault.TooLarge x.limit x.count))
-limits_refused p x shapes h = (shapes, excess_told (first_excess p) x h)
+pub limits_refused : (A : Type 0) (p : Program) (x : Excess) → shapes_breaches_of p ≡ [] → TellsExcess {A = Unit {0}} (first_excess p) (Err x) → TellsShapes {A = A} p (Err (fault.TooLarge x.limit x.count))
+limits_refused A p x shapes h = (shapes, excess_told (first_excess p) x h)
 
 -- the third, whose first breach has been found before
-pub place_refused : (p : Program) (first : Option Breach) (b : Breach) → shapes_breaches_of p ≡ [] → TellsExcess {A = Unit {0}} (first_excess p) (Ok tt) → first ≡ least_of None (placement_breaches p) → first ≡ Some b
-    → TellsShapes {A = Unit {0}} p (Err (fault.Refused b.rule b.place))
-place_refused p first b shapes limits e is =
+pub place_refused : (A : Type 0) (p : Program) (first : Option Breach) (b : Breach) → shapes_breaches_of p ≡ [] → TellsExcess {A = Unit {0}} (first_excess p) (Ok tt) → first ≡ least_of None (placement_breaches p) → first ≡ Some b
+    → TellsShapes {A = A} p (Err (fault.Refused b.rule b.place))
+place_refused A p first b shapes limits e is =
     inr (record { shapes = shapes; limits = no_excess (first_excess p) limits; least = least_is_kept (placement_breaches p) b (sym e ∙ is) })
 
 -- none of them
-pub all_kept : (p : Program) (first : Option Breach) → shapes_breaches_of p ≡ [] → TellsExcess {A = Unit {0}} (first_excess p) (Ok tt) → first ≡ least_of None (placement_breaches p) → first ≡ None
-    → TellsShapes {A = Unit {0}} p (Ok tt)
-all_kept p first shapes limits e is = (shapes, (no_excess (first_excess p) limits, none_is_kept (placement_breaches p) (sym e ∙ is)))
+pub all_kept : {A : Type 0} (p : Program) (first : Option Breach) (a : A) → shapes_breaches_of p ≡ [] → TellsExcess {A = Unit {0}} (first_excess p) (Ok tt) → first ≡ least_of None (placement_breaches p) → first ≡ None
+    → TellsShapes {A = A} p (Ok a)
+all_kept p first a shapes limits e is = (shapes, (no_excess (first_excess p) limits, none_is_kept (placement_breaches p) (sym e ∙ is)))

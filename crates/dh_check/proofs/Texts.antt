@@ -11,8 +11,8 @@ use Rattle.dh_parser.specs.Programs.{Parses, Spells, rule_at}
 use Rattle.dh_parser.proofs.TextsSound.{texts_are_sound}
 use Rattle.dh_tree.specs.PlainTrees.{Program}
 use Rattle.dh_tree.specs.Written.{IsOfText}
-use Rattle.dh_tree.specs.declared.trees.typed.Typed.{Typed}
 use Rattle.dh_check.specs.declared.checking.CheckFault.{CheckFault}
+use Rattle.dh_check.specs.declared.checking.CountedProgram.{CountedProgram}
 use Rattle.dh_check.specs.declared.checking.CheckFault.TheVariants as fault
 use Rattle.dh_tree.specs.Ready.{most_tokens}
 use Rattle.dh_check.specs.Ready.{of_pass, Stops, TellsTree, TellsText}
@@ -48,9 +48,9 @@ token_refused text ts l (pass.Refused rule place) same has e h =
 tree_verdict : (ports : Bool) (text : List ℕ) (ts l : List Token) (p : Program) (v : Verdict) → l ≡ ts → HasTokens text ts → tokens_excess l ≡ None → Spells p l → JudgedTree ports p v → IsVerdict ports text v
 tree_verdict ports text ts l p v same has e spells h = judged_tokens ports text ts l None v same has e (inr (p, (spells, h)))
 
-pub tells_text : (text : List ℕ) (ts l : List Token) (p : Program) (r : Result Typed CheckFault) → l ≡ ts → HasTokens text ts → tokens_excess l ≡ None → Spells p l → TellsTree p r
+pub tells_text : (text : List ℕ) (ts l : List Token) (p : Program) (r : Result CountedProgram CheckFault) → l ≡ ts → HasTokens text ts → tokens_excess l ≡ None → Spells p l → TellsTree p r
     → TellsText text r
-tells_text text ts l p (Ok t) same has e spells h = (h.0, λ ports v j. tree_verdict ports text ts l p v same has e spells (h.1 ports v j))
+tells_text text ts l p (Ok c) same has e spells h = (h.0, λ ports v j. tree_verdict ports text ts l p v same has e spells (h.1 ports v j))
 tells_text text ts l p (Err (fault.Refused rule place)) same has e spells h = λ ports. tree_verdict ports text ts l p _ same has e spells (h ports)
 tells_text text ts l p (Err (fault.TooLarge limit count)) same has e spells h = λ ports. tree_verdict ports text ts l p _ same has e spells (h ports)
 tells_text text ts l p (Err fault.NoMemory) same has e spells h = λ ports. tt

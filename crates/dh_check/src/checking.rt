@@ -9,7 +9,8 @@ ghost use Rattle.dh_tree.specs.Excesses as excesses;
 ghost use Rattle.dh_tree.specs.Ready.{most_tokens};
 ghost use Rattle.dh_check.specs.Acceptance.{IsSoundProgram};
 ghost use Rattle.dh_check.specs.declared.checking.CheckFault.TheVariants as fault;
-ghost use Rattle.dh_check.specs.Ready.{of_pass, TellsText, TellsTree, TellsNamed, TellsShapes};
+ghost use Rattle.dh_events.specs.Stages.{AreStagesOf};
+ghost use Rattle.dh_check.specs.Ready.{of_pass, HasStages, TellsText, TellsTree, TellsNamed, TellsShapes};
 ghost use Rattle.dh_check.specs.Verdicts.{Checks, ChecksWithoutPorts, counted_excess, tokens_excess};
 
 use crate::laws::ready_programs_have_tables;
@@ -17,7 +18,7 @@ use dh_base::{Excess, Limit, PassFault, Place, Rule};
 use dh_lexer::{Counts, Token, counts, lex};
 use dh_names::resolve_built;
 use dh_parser::parse;
-use dh_ports::{Accepted, check_ports};
+use dh_ports::{Accepted, check_counted};
 use dh_rules::shapes_and_places;
 use dh_shape::within;
 use dh_sound::{accepted_programs_are_never_stuck, ready_accesses_are_told};
@@ -98,6 +99,15 @@ fn first_excess(counts: Counts) -> Option<Excess>
         .or(excess_at(Limit::ElseIfs, counts.else_ifs))
 }
 
+/// A program that is ready, and what the passes count on the way.
+#[derive(Drop)]
+struct CountedProgram {
+    /// The program.
+    typed: Typed,
+    /// How many phases each of its commands has, by its number.
+    stages: Vec<usize>,
+}
+
 /// Checks a text of at most 1,048,576 bytes: its tokens, the limits on them, its tree, the forms that
 /// are built, names, kinds, shapes with indices and bounds, the limits on memories, where memories stand,
 /// and ports, in this order. The
@@ -117,8 +127,9 @@ pub fn check(alloc: Global, text: &[u8]) -> Result<Accepted, CheckFault>
     ready_programs_have_tables();
     ready_accesses_are_told();
     accepted_programs_are_never_stuck();
-    let typed = ready(alloc, text)?;
-    let accepted = check_ports(alloc, typed)?;
+    let counted = ready(alloc, text)?;
+    let CountedProgram { typed, stages } = counted;
+    let accepted = check_counted(alloc, typed, stages)?;
     Ok(accepted)
 }
 
@@ -131,13 +142,17 @@ pub fn check_without_ports(alloc: Global, text: &[u8]) -> Result<Typed, CheckFau
     requires { length text.now ≤ 1048576 }
     ensures { ChecksWithoutPorts text.now result }
 {
-    ready(alloc, text)
+    match ready(alloc, text) {
+        Ok(counted) => Ok(counted.typed),
+        Err(fault) => Err(fault),
+    }
 }
 
 /// The passes over a text before that over ports.
-fn ready(alloc: Global, text: &[u8]) -> Result<Typed, CheckFault>
+fn ready(alloc: Global, text: &[u8]) -> Result<CountedProgram, CheckFault>
     requires { length text.now ≤ 1048576 }
-    ensures { TellsText text.now result }
+    ensures tells { TellsText text.now result }
+    ensures counts { IfOk result HasStages }
 {
     let tokens = lex(alloc, text)?;
     within_limits(tokens.as_slice())?;
@@ -156,37 +171,40 @@ fn within_limits(tokens: &[Token]) -> Result<(), Excess>
 }
 
 /// The passes over a tree before that over ports.
-fn ready_tree(alloc: Global, tree: Tree) -> Result<Typed, CheckFault>
+fn ready_tree(alloc: Global, tree: Tree) -> Result<CountedProgram, CheckFault>
     requires { IsOfText most_tokens (program_seen tree) }
-    ensures { TellsTree (program_seen tree) result }
+    ensures tells { TellsTree (program_seen tree) result }
+    ensures counts { IfOk result HasStages }
 {
     let named = resolve_built(alloc, tree)?;
     ready_named(alloc, named)
 }
 
 /// The passes over a tree whose names are resolved, before that over ports.
-fn ready_named(alloc: Global, named: Named) -> Result<Typed, CheckFault>
+fn ready_named(alloc: Global, named: Named) -> Result<CountedProgram, CheckFault>
     requires of_text { IsOfText most_tokens (program_seen named) }
     requires built { unbuilt_forms (program_seen named) ≡ [] }
-    ensures { TellsNamed (program_seen named) result }
+    ensures tells { TellsNamed (program_seen named) result }
+    ensures counts { IfOk result HasStages }
 {
     let typed = type_program(alloc, named)?;
     // a typed tree keeps the rules on names and kinds
     typed.tree();
-    shaped(alloc, &typed)?;
-    Ok(typed)
+    let stages = shaped(alloc, &typed)?;
+    Ok(CountedProgram { typed, stages })
 }
 
 /// The rules on shapes, indices, bounds and views, then the limits on memories, then the rules on where
-/// memories stand and what is assigned to, whose first breach the walk over shapes has found. Takes memory
-/// only where a view is declared.
-fn shaped(alloc: Global, typed: &Typed) -> Result<(), CheckFault>
-    ensures { TellsShapes (program_seen typed.now) result }
+/// memories stand and what is assigned to, whose first breach the walk over shapes has found. Answers how many
+/// phases each command has.
+fn shaped(alloc: Global, typed: &Typed) -> Result<Vec<usize>, CheckFault>
+    ensures tells { TellsShapes (program_seen typed.now) result }
+    ensures counts { IfOk result (λ stages. AreStagesOf (program_seen typed.now) stages.items) }
 {
-    let misplaced = shapes_and_places(alloc, typed)?;
+    let shaped = shapes_and_places(alloc, typed)?;
     within(typed)?;
-    match misplaced {
+    match shaped.misplaced {
         Some(breach) => Err(CheckFault::from(breach)),
-        None => Ok(()),
+        None => Ok(shaped.stages),
     }
 }

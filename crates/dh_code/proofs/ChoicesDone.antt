@@ -5,10 +5,10 @@ use Rattle.std.proofs.lemmas.List.{map-append, take-append-drop}
 use Rattle.dh_meaning.specs.Paths.{Path}
 use Rattle.dh_meaning.specs.Core.{CoreTerm, CoreCommand, store, assign, choose, keep, CoreCommands, no_commands, command_and}
 use Rattle.dh_meaning.specs.Effects.{Begun, Effect, Variables, at_each, command_run, commands_run, holds_at, paths_where, tested_at}
-use Rattle.dh_code.specs.declared.codes.Flat.{Flat}
-use Rattle.dh_code.specs.declared.evaluating.Scene.{Scene}
-use Rattle.dh_code.specs.declared.evaluating.Stop.{Stop}
-use Rattle.dh_code.specs.declared.running.State.{State}
+use Rattle.dh_code.specs.declared.codes.FlatExpression.{FlatExpression}
+use Rattle.dh_code.specs.declared.evaluating.StepContext.{StepContext}
+use Rattle.dh_code.specs.declared.evaluating.StepStop.{StepStop}
+use Rattle.dh_code.specs.declared.running.StepState.{StepState}
 use Rattle.dh_code.specs.Coded.{IsFlat}
 use Rattle.dh_code.specs.Ranks.{ArePaths, IsPath, ranks_of}
 use Rattle.dh_code.specs.Scenes.{begun_in}
@@ -79,19 +79,19 @@ rows_more factors rows ns ps n x h i = record {
 }
 
 -- paths are put on one side or the other, up to one
-pub record PartsAt (p : Placing) (s : Scene) (rows : List (List ℕ)) (factors : List ℕ) (paths : List Path) (t : CoreTerm) (e : Effect) (k : ℕ) (now : State) (chosen other : List ℕ) : Type 0 where
+pub record PartsAt (p : Placing) (s : StepContext) (rows : List (List ℕ)) (factors : List ℕ) (paths : List Path) (t : CoreTerm) (e : Effect) (k : ℕ) (now : StepState) (chosen other : List ℕ) : Type 0 where
   pub going : Going p s (tested_at (begun_in s) t) paths e k now
   pub same : going.effect.variables ≡ e.variables
   pub first : AreRows factors rows chosen (paths_where true (holds_at (begun_in s) e.variables t) (take k paths))
   pub second : AreRows factors rows other (paths_where false (holds_at (begun_in s) e.variables t) (take k paths))
 
-pub record PartsSoFar (s : Scene) (old : State) (rows : List (List ℕ)) (numbers : List ℕ) (f : Flat) (k : ℕ) (now : State) (chosen other : List ℕ) : Type 0 where
+pub record PartsSoFar (s : StepContext) (old : StepState) (rows : List (List ℕ)) (numbers : List ℕ) (f : FlatExpression) (k : ℕ) (now : StepState) (chosen other : List ℕ) : Type 0 where
   pub ready : IsReadyState s now
   pub back : KeepsBack old now
   pub ran : (p : Placing) (factors : List ℕ) (paths : List Path) (t : CoreTerm) → AreRows factors rows numbers paths → IsFlat p.held s.entries.now s.code.now t f → CanEvaluate s.entries.now p factors t
       → (e : Effect) → Keeps p s.entries.now e s.step old → PartsAt p s rows factors paths t e k now chosen other
 
-pub parts_first : (s : Scene) (old : State) (rows : List (List ℕ)) (numbers : List ℕ) (f : Flat) → IsReadyState s old → PartsSoFar s old rows numbers f 0 old [] []
+pub parts_first : (s : StepContext) (old : StepState) (rows : List (List ℕ)) (numbers : List ℕ) (f : FlatExpression) → IsReadyState s old → PartsSoFar s old rows numbers f 0 old [] []
 parts_first s old rows numbers f ready = record {
   ready = ready;
   back = record { long = refl; back = refl };
@@ -107,7 +107,7 @@ parts_first s old rows numbers f ready = record {
     none factors [] test b = record { inside = tt; are = refl }
     none factors (p ∷ paths) test b = record { inside = tt; are = refl }
 
-module _ (s : Scene) (old : State) (rows : List (List ℕ)) (numbers : List ℕ) (f : Flat) (k : ℕ) (now : State) (chosen other : List ℕ) (i : ℕ) (ranks : List ℕ) (within : k < length numbers) (item : i ≡ get_or numbers k i) (row : ranks ≡ slice_index_or rows i [])
+module _ (s : StepContext) (old : StepState) (rows : List (List ℕ)) (numbers : List ℕ) (f : FlatExpression) (k : ℕ) (now : StepState) (chosen other : List ℕ) (i : ℕ) (ranks : List ℕ) (within : k < length numbers) (item : i ≡ get_or numbers k i) (row : ranks ≡ slice_index_or rows i [])
     (g : PartsSoFar s old rows numbers f k now chosen other) where
   row_now : (factors : List ℕ) (paths : List Path) → AreRows factors rows numbers paths → AreRanks factors (slice_index_or rows i []) (get_or paths k [])
   row_now factors paths are = subst (λ (n : ℕ). AreRanks factors (slice_index_or rows n []) (get_or paths k [])) (sym item) (row_at factors rows numbers paths k i are.are are.inside within).0
@@ -119,7 +119,7 @@ module _ (s : Scene) (old : State) (rows : List (List ℕ)) (numbers : List ℕ)
   next_paths factors paths are = take_next paths k (get_or paths k []) (row_at factors rows numbers paths k i are.are are.inside within).1
 
   -- where the test comes out so
-  module _ (b : Bool) (new : State) (ready : IsReadyState s new) (back : KeepsBack now new) (d : Decides s now (Ok b) new ranks f) where
+  module _ (b : Bool) (new : StepState) (ready : IsReadyState s new) (back : KeepsBack now new) (d : Decides s now (Ok b) new ranks f) where
     abbrev so_far : (p : Placing) (factors : List ℕ) (paths : List Path) (t : CoreTerm) → AreRows factors rows numbers paths → IsFlat p.held s.entries.now s.code.now t f → CanEvaluate s.entries.now p factors t → (e : Effect) → Keeps p s.entries.now e s.step old
         → PartsAt p s rows factors paths t e k now chosen other
     so_far p factors paths t are flat can e h = g.ran p factors paths t are flat can e h
@@ -177,7 +177,7 @@ module _ (s : Scene) (old : State) (rows : List (List ℕ)) (numbers : List ℕ)
         by false is h =
             subst (λ (l : List ℕ). PartsSoFar s old rows numbers f (suc k) new l other') (sym h.0) (subst (λ (l : List ℕ). PartsSoFar s old rows numbers f (suc k) new chosen l) (sym h.1) (parts_false is))
 
-  pub parts_stop : (A B : Type 0) (x : Stop) (new new' : State) (result : Result B Stop) → result ≡ Err x
+  pub parts_stop : (A B : Type 0) (x : StepStop) (new new' : StepState) (result : Result B StepStop) → result ≡ Err x
       → ((p : Placing) (factors : List ℕ) (path : Path) (t : CoreTerm) → AreRanks factors ranks path → IsFlat p.held s.entries.now s.code.now t f → CanEvaluate s.entries.now p factors t → Runs {A = A} p s now (Err x) new (tested_at (begun_in s) t path))
       → (p : Placing) (factors : List ℕ) (paths : List Path) (t : CoreTerm) → AreRows factors rows numbers paths → IsFlat p.held s.entries.now s.code.now t f → CanEvaluate s.entries.now p factors t → Runs {A = B} p s old result new' (at_each (tested_at (begun_in s) t) paths)
   parts_stop A B x new new' result stopped d p factors paths t are flat can = λ e h.
@@ -185,7 +185,7 @@ module _ (s : Scene) (old : State) (rows : List (List ℕ)) (numbers : List ℕ)
       go_stop p s (tested_at (begun_in s) t) (test_grows (begun_in s) t) factors rows numbers paths are e k now a.going i within A B x new new' result stopped
       (d p factors (get_or paths k []) t (rank_now factors paths are) flat can)
 
-pub parts_end : (s : Scene) (old : State) (rows : List (List ℕ)) (numbers : List ℕ) (f : Flat) (k : ℕ) (now : State) (chosen other : List ℕ) → length numbers ≤ k → PartsSoFar s old rows numbers f k now chosen other
+pub parts_end : (s : StepContext) (old : StepState) (rows : List (List ℕ)) (numbers : List ℕ) (f : FlatExpression) (k : ℕ) (now : StepState) (chosen other : List ℕ) → length numbers ≤ k → PartsSoFar s old rows numbers f k now chosen other
     → (p : Placing) (factors : List ℕ) (paths : List Path) (t : CoreTerm) → AreRows factors rows numbers paths → IsFlat p.held s.entries.now s.code.now t f → CanEvaluate s.entries.now p factors t
     → (e : Effect) → Keeps p s.entries.now e s.step old → Keeps p s.entries.now (at_each (tested_at (begun_in s) t) paths e) s.step now × AreParts rows factors paths (holds_at (begun_in s) e.variables t) (chosen, other)
 parts_end s old rows numbers f k now chosen other over g p factors paths t are flat can e h =

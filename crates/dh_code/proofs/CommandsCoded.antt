@@ -12,10 +12,10 @@ use Rattle.dh_code.specs.declared.codes.Action.{Action}
 use Rattle.dh_code.specs.declared.codes.Action.TheVariants.{Store, Assign, Keep, Choose}
 use Rattle.dh_code.specs.declared.codes.Operand.{Operand}
 use Rattle.dh_code.specs.declared.codes.Code.{Code}
-use Rattle.dh_code.specs.declared.codes.Flat.{Flat}
-use Rattle.dh_code.specs.declared.codes.Operation.{Operation}
-use Rattle.dh_code.specs.declared.codes.Step.{Step}
-use Rattle.dh_code.specs.declared.places.Held.{Held}
+use Rattle.dh_code.specs.declared.codes.FlatExpression.{FlatExpression}
+use Rattle.dh_code.specs.declared.codes.CodeOperation.{CodeOperation}
+use Rattle.dh_code.specs.declared.codes.ListedCommand.{ListedCommand}
+use Rattle.dh_code.specs.declared.places.VariableSlots.{VariableSlots}
 use Rattle.dh_code.specs.Coded.{AreCoded, AreFlat, ExtendsCode, IsCoded, IsFlat, IsFlatStore, operands_kept}
 use Rattle.dh_code.specs.Flattening.{AddsOnlyOperations, AddsStep}
 use Rattle.dh_code.specs.Operated.{IsOperation}
@@ -77,7 +77,7 @@ extends_then a b c h k = record {
   lead = k.lead ∙ (ap (λ l. l ++ k.steps) h.lead ∙ append_assoc a.steps h.steps k.steps);
 }
 
-pub adds_extend : (a b : Code) (xs : List Operation) → AddsOnlyOperations a b xs → ExtendsCode a b
+pub adds_extend : (a b : Code) (xs : List CodeOperation) → AddsOnlyOperations a b xs → ExtendsCode a b
 adds_extend a b xs h = record { operations = xs; are = h.operations; steps = []; lead = h.steps ∙ sym (append-nil a.steps) }
 
 pub step_extends : (a b : Code) (x : Action) (next first : Option ℕ) → AddsStep a b x next first → ExtendsCode a b
@@ -92,17 +92,17 @@ longer a b n h within = by (length a.operations) (length h.operations) (length b
 pub range_stays : (a b : Code) (from to : ℕ) → ExtendsCode a b → from ≤ to → to ≤ length a.operations → slice_range b.operations from to ≡ slice_range a.operations from to
 range_stays a b from to h le within = ap (λ l. slice_range l from to) h.are ∙ range_before a.operations h.operations from to le within
 
-same_range : (a b : Code) (f : Flat) → ExtendsCode a b → f.from ≤ f.to → f.to ≤ length a.operations → slice_range b.operations f.from f.to ≡ slice_range a.operations f.from f.to
+same_range : (a b : Code) (f : FlatExpression) → ExtendsCode a b → f.from ≤ f.to → f.to ≤ length a.operations → slice_range b.operations f.from f.to ≡ slice_range a.operations f.from f.to
 same_range a b f h le within = range_stays a b f.from f.to h le within
 
-module _ (held : List Held) (table : List MemEntry) (a b : Code) (h : ExtendsCode a b) where
-  pub flat_stays : (t : CoreTerm) (f : Flat) → IsFlat held table a t f → IsFlat held table b t f
+module _ (held : List VariableSlots) (table : List MemEntry) (a b : Code) (h : ExtendsCode a b) where
+  pub flat_stays : (t : CoreTerm) (f : FlatExpression) → IsFlat held table a t f → IsFlat held table b t f
   flat_stays t f i = record { within = i.within; there = longer a b f.to h i.there; operations = same_range a b f h i.within i.there ∙ i.operations; value = i.value }
 
   pub values_stay : (ts : CoreTerms) (from to : ℕ) (os : List Operand) → AreFlat held table a ts from to os → AreFlat held table b ts from to os
   values_stay ts from to os i = record { within = i.within; there = longer a b to h i.there; operations = range_stays a b from to h i.within i.there ∙ i.operations; values = i.values }
 
-  pub store_stays : (r : Reach) (target : core.Target) (t : CoreTerm) (f : Flat) (x : Access) → IsFlatStore held table a r target t f x → IsFlatStore held table b r target t f x
+  pub store_stays : (r : Reach) (target : core.Target) (t : CoreTerm) (f : FlatExpression) (x : Access) → IsFlatStore held table a r target t f x → IsFlatStore held table b r target t f x
   store_stays r target t f x i = record { within = i.within; there = longer a b f.to h i.there; operations = same_range a b f h i.within i.there ∙ i.operations; value = i.value; access = i.access }
 
   mutual
@@ -132,13 +132,13 @@ module _ (held : List Held) (table : List MemEntry) (a b : Code) (h : ExtendsCod
     one_stays (Choose f one two) (choose test chosen other) i = (flat_stays test f i.0, (coded_stays one chosen i.1.0, coded_stays two other i.1.1))
 
 -- a list of commands that is there begins before the number of the next one
-pub begins_before : (held : List Held) (table : List MemEntry) (c : Code) (first : Option ℕ) (cs : CoreCommands) → AreCoded held table c first cs → IsEarlier (length c.steps) first
+pub begins_before : (held : List VariableSlots) (table : List MemEntry) (c : Code) (first : Option ℕ) (cs : CoreCommands) → AreCoded held table c first cs → IsEarlier (length c.steps) first
 begins_before held table c None cs i = tt
 begins_before held table c (Some at) no_commands i = absurd i
 begins_before held table c (Some at) (command_and x cs) (s, (get, rest)) = slice_get_within c.steps at s get
 
 -- one command more in front of those behind it
-pub front_coded : (held : List Held) (table : List MemEntry) (a b : Code) (x : Action) (next first : Option ℕ) (c : CoreCommand) (cs : CoreCommands) → AddsStep a b x next first → IsCoded held table a x c → AreCoded held table a next cs → AreCoded held table b first (command_and c cs)
+pub front_coded : (held : List VariableSlots) (table : List MemEntry) (a b : Code) (x : Action) (next first : Option ℕ) (c : CoreCommand) (cs : CoreCommands) → AddsStep a b x next first → IsCoded held table a x c → AreCoded held table a next cs → AreCoded held table b first (command_and c cs)
 front_coded held table a b x next first c cs h one rest =
     subst (λ (o : Option ℕ). AreCoded held table b o (command_and c cs)) (sym h.first_is)
     (record { action = x; next = next }, (ap (λ l. slice_get l (length a.steps)) h.steps ∙ get_last a.steps (record { action = x; next = next }), (one_stays held table a b e x c one, coded_stays held table a b e next cs rest)))
@@ -148,7 +148,7 @@ front_coded held table a b x next first c cs h one rest =
 
 -- Code that can be done.
 
-pub held_stays : (a b : Code) (f : Flat) → ExtendsCode a b → IsHeld a.operations f → IsHeld b.operations f
+pub held_stays : (a b : Code) (f : FlatExpression) → ExtendsCode a b → IsHeld a.operations f → IsHeld b.operations f
 held_stays a b f h i = record { within = i.within; there = longer a b f.to h i.there; operand = i.operand }
 
 action_stays : (table : List MemEntry) (a b : Code) (at : ℕ) (x : Action) → ExtendsCode a b → IsAction table a.operations at x → IsAction table b.operations at x
@@ -157,9 +157,9 @@ action_stays table a b at (Assign f first depth) h i = held_stays a b f h i
 action_stays table a b at (Keep from to values depth) h i = record { within = i.within; there = longer a b to h i.there; operands = i.operands }
 action_stays table a b at (Choose f one two) h i = (held_stays a b f h i.0, i.1)
 
-pub sound_added : (table : List MemEntry) (a b : Code) (xs : List Operation) → AddsOnlyOperations a b xs → AllByRecursion (IsOperation table) xs → IsSoundCode table a → IsSoundCode table b
+pub sound_added : (table : List MemEntry) (a b : Code) (xs : List CodeOperation) → AddsOnlyOperations a b xs → AllByRecursion (IsOperation table) xs → IsSoundCode table a → IsSoundCode table b
 sound_added table a b xs h done s = record {
-  operations = subst (λ (l : List Operation). AllByRecursion (IsOperation table) l) (sym h.operations) (all_append (IsOperation table) a.operations xs s.operations done);
+  operations = subst (λ (l : List CodeOperation). AllByRecursion (IsOperation table) l) (sym h.operations) (all_append (IsOperation table) a.operations xs s.operations done);
   steps = λ at x get.
       let i = s.steps at x (ap (λ l. slice_get l at) (sym h.steps) ∙ get) in
       record { action = action_stays table a b at x.action (adds_extend a b xs h) i.action; next = i.next };
@@ -167,14 +167,14 @@ sound_added table a b xs h done s = record {
 
 pub sound_step : (table : List MemEntry) (a b : Code) (x : Action) (next first : Option ℕ) → AddsStep a b x next first → IsAction table a.operations (length a.steps) x → IsEarlier (length a.steps) next → IsSoundCode table a → IsSoundCode table b
 sound_step table a b x next first h done earlier s = record {
-  operations = subst (λ (l : List Operation). AllByRecursion (IsOperation table) l) (sym h.operations) s.operations;
+  operations = subst (λ (l : List CodeOperation). AllByRecursion (IsOperation table) l) (sym h.operations) s.operations;
   steps = λ at y get. one at y (split a.steps at y (ap (λ l. slice_get l at) (sym h.steps) ∙ get));
 }
   where
-    new : Step
+    new : ListedCommand
     new = record { action = x; next = next }
 
-    split : (xs : List Step) (at : ℕ) (y : Step) → slice_get (xs ++ new ∷ []) at ≡ Some y → (slice_get xs at ≡ Some y) ⊎ ((at ≡ length xs) × (new ≡ y))
+    split : (xs : List ListedCommand) (at : ℕ) (y : ListedCommand) → slice_get (xs ++ new ∷ []) at ≡ Some y → (slice_get xs at ≡ Some y) ⊎ ((at ≡ length xs) × (new ≡ y))
     split [] zero y e = inr (refl, some e)
       where
         some : Some new ≡ Some y → new ≡ y
@@ -187,8 +187,8 @@ sound_step table a b x next first h done earlier s = record {
         by (inl f) = inl f
         by (inr f) = inr (ap suc f.0, f.1)
 
-    one : (at : ℕ) (y : Step) → (slice_get a.steps at ≡ Some y) ⊎ ((at ≡ length a.steps) × (new ≡ y)) → IsStep table b.operations at y
+    one : (at : ℕ) (y : ListedCommand) → (slice_get a.steps at ≡ Some y) ⊎ ((at ≡ length a.steps) × (new ≡ y)) → IsStep table b.operations at y
     one at y (inl e) = let i = s.steps at y e in record { action = action_stays table a b at y.action (step_extends a b x next first h) i.action; next = i.next }
     one at y (inr e) =
-        subst (λ (z : Step). IsStep table b.operations at z) e.1
+        subst (λ (z : ListedCommand). IsStep table b.operations at z) e.1
         (subst (λ (n : ℕ). IsStep table b.operations n new) (sym e.0) (record { action = action_stays table a b (length a.steps) x (step_extends a b x next first h) done; next = earlier }))

@@ -25,13 +25,13 @@ use Rattle.dh_meaning.specs.Ways.{Hidden, base_of, hidden_in, way_at, way_unless
 use Rattle.dh_code.specs.declared.codes.Access.{Access}
 use Rattle.dh_code.specs.declared.codes.Action.TheVariants.{Store, Assign, Choose}
 use Rattle.dh_code.specs.declared.codes.Code.{Code}
-use Rattle.dh_code.specs.declared.codes.Flat.{Flat}
+use Rattle.dh_code.specs.declared.codes.FlatExpression.{FlatExpression}
 use Rattle.dh_code.specs.declared.codes.Operand.{Operand}
 use Rattle.dh_code.specs.declared.codes.Operand.TheVariants.{Constant}
 use Rattle.dh_code.specs.declared.codes.Target.{Target}
 use Rattle.dh_code.specs.declared.codes.Target.TheVariants.{Row}
 use Rattle.dh_code.specs.declared.flattening.Names.{Names}
-use Rattle.dh_code.specs.declared.places.Held.{Held}
+use Rattle.dh_code.specs.declared.places.VariableSlots.{VariableSlots}
 use Rattle.dh_code.specs.Coded.{AreSlotsOf}
 use Rattle.dh_code.specs.Extended.{extension_of}
 use Rattle.dh_code.specs.Flattening.{AddsOnlyOperations, AddsBinary, AddsStep, Aims, AreMade, ExtendsTo, FlattensCommand, IsAimed, IsFlatMade, IsInFront, IsExpressionMade, IsPlacingOf, IsStillAt, aimed_at, is_aimed, known_by_names, table_in}
@@ -104,7 +104,7 @@ module _ (names : Names) (p : Placing) (loops : List ℕ) (same : p.held ≡ nam
   slots_are : (entity first depth : ℕ) → first ≡ (held_at names.places.now entity).first → depth ≡ (held_at names.places.now entity).depth → AreSlotsOf names.places.now entity first depth
   slots_are entity first depth f d = record { first_is = f; depth_is = d }
 
-  pub assign_front : (old mid new : Code) (entity deep : ℕ) (t : CoreTerm) (f : Flat) (next first : Option ℕ) (rest : CoreCommands)
+  pub assign_front : (old mid new : Code) (entity deep : ℕ) (t : CoreTerm) (f : FlatExpression) (next first : Option ℕ) (rest : CoreCommands)
       → CanDoAll (table_in names) p loops (command_and (assign deep entity t) rest) → (IsSuited (table_in names) t → IsFlatMade old mid (term_made names.places.now (table_in names) (length old.operations) t) f)
       → AddsStep mid new (Assign f (held_at names.places.now entity).first (held_at names.places.now entity).depth) next first → IsInFront names old new first next (command_and (assign deep entity t) rest) rest
   assign_front old mid new entity deep t f next first rest can flat step =
@@ -146,7 +146,7 @@ module _ (names : Names) (p : Placing) (loops : List ℕ) (placing : IsPlacingOf
 -- A store.
 module _ (names : Names) (p : Placing) (loops : List ℕ) (old mid mid' new : Code) (t : CoreTerm) (v : Operand) (next first : Option ℕ) (rest : CoreCommands)
     (flat : IsSuited (table_in names) t → IsExpressionMade old mid v (term_made names.places.now (table_in names) (length old.operations) t)) where
-  abbrev held : List Held
+  abbrev held : List VariableSlots
   held = names.places.now
 
   abbrev table : List MemEntry
@@ -166,7 +166,7 @@ module _ (names : Names) (p : Placing) (loops : List ℕ) (old mid mid' new : Co
       let moved = subst (λ (n : ℕ). AddsOnlyOperations mid mid' (target_made held table n target).operations) long aim.0 in
       let all = adds_then old mid mid' one.operations two.operations m.adds moved in
       let longer = adds_long old mid' (one.operations ++ two.operations) all in
-      let f : Flat = record { from = length old.operations; to = length mid'.operations; value = v } in
+      let f : FlatExpression = record { from = length old.operations; to = length mid'.operations; value = v } in
       let same : a ≡ access_to r two.target = aim.1 ∙ ap (λ n. access_to r (target_made held table n target).target) long in
       in_front names old mid' new (one.operations ++ two.operations) (Store f a) next first (store r target t) rest all step
       (record {
@@ -193,7 +193,7 @@ module _ (names : Names) (p : Placing) (loops : List ℕ) (old mid mid' new : Co
       at_end n = omega arith
 
 -- Nothing is done where a test that is false has no arms.
-pub nothing_front : (names : Names) (old new : Code) (f : Flat) (next first : Option ℕ) (rest : CoreCommands) → AddsStep old new (Choose f None None) next first → IsStillAt old (Constant (operations.truth false)) f
+pub nothing_front : (names : Names) (old new : Code) (f : FlatExpression) (next first : Option ℕ) (rest : CoreCommands) → AddsStep old new (Choose f None None) next first → IsStillAt old (Constant (operations.truth false)) f
     → IsInFront names old new first next (command_and (choose (truth_literal false) no_commands no_commands) rest) rest
 nothing_front names old new f next first rest step still =
     let made : IsFlatMade old old (term_made names.places.now (table_in names) (length old.operations) (truth_literal false)) f = record { adds = adds_none old; from = still.from; to = still.to; value = still.value_is } in
@@ -220,7 +220,7 @@ aimed_nowhere known n (plain.term at kind (plain.applied o left right)) value e 
 aimed_nowhere known n (plain.term at kind (plain.converted inner to)) value e = refl
 
 -- An `if`: its test, its arms, and the command.
-pub choose_front : (names : Names) (p : Placing) (loops : List ℕ) (old a b c new : Code) (test : CoreTerm) (chosen other : CoreCommands) (f : Flat) (one two next first : Option ℕ) (rest : CoreCommands)
+pub choose_front : (names : Names) (p : Placing) (loops : List ℕ) (old a b c new : Code) (test : CoreTerm) (chosen other : CoreCommands) (f : FlatExpression) (one two next first : Option ℕ) (rest : CoreCommands)
     → CanDoAll (table_in names) p loops (command_and (choose test chosen other) rest) → (IsSuited (table_in names) test → IsFlatMade old a (term_made names.places.now (table_in names) (length old.operations) test) f)
     → (CanDoAll (table_in names) p loops chosen → IsInFront names a b one None chosen no_commands) → (CanDoAll (table_in names) p loops other → IsInFront names b c two None other no_commands)
     → AddsStep c new (Choose f one two) next first → IsInFront names old new first next (command_and (choose test chosen other) rest) rest

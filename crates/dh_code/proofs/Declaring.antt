@@ -10,7 +10,7 @@ use Rattle.dh_tree.specs.Seen.{action_form_seen}
 use Rattle.dh_value.specs.declared.kinds.Kind.{Kind}
 use Rattle.dh_tree.proofs.Collecting.{one_more}
 use Rattle.dh_code.specs.declared.places.Declared.{Declared}
-use Rattle.dh_code.specs.declared.places.Held.{Held}
+use Rattle.dh_code.specs.declared.places.VariableSlots.{VariableSlots}
 use Rattle.dh_code.specs.Declarations.{Declaration, all_held, declaration_in, declared_of, factors_inside, declared_factors, form_declarations, held_behind, slots_counted}
 use Rattle.dh_code.specs.Placed.{AreFew, AreFound, AreLaidSlots, Declares, IsLoopNest, KeepsFound, copies_held, held_of}
 use Rattle.dh_code.specs.Ranks.{copies_in}
@@ -81,7 +81,7 @@ copies_are : (d : Option Declaration) → copies_held (option_map declared_of d)
 copies_are None = refl
 copies_are (Some d) = refl
 
-pub record Lays (found : List (Option Declared)) (i : ℕ) (held : List Held) (count : ℕ) : Type 0 where
+pub record Lays (found : List (Option Declared)) (i : ℕ) (held : List VariableSlots) (count : ℕ) : Type 0 where
   pub held_so : (ds : List Declaration) → AreFound ds found → (n : ℕ) → i + n ≡ length found → held ++ all_held ds count i n ≡ all_held ds 0 0 (length found)
   pub count_so : (ds : List Declaration) → AreFound ds found → (n : ℕ) → i + n ≡ length found → slots_counted ds count i n ≡ slots_counted ds 0 0 (length found)
 
@@ -94,7 +94,7 @@ lays_first found = record {
     none : (n : ℕ) → 0 + n ≡ length found → n ≡ length found
     none n e = omega (arith, e)
 
-pub lays_turn : (found : List (Option Declared)) (i count : ℕ) (held held' : List Held) (count' : ℕ) (v : Option Declared) → i < length found → v ≡ get_or found i None
+pub lays_turn : (found : List (Option Declared)) (i count : ℕ) (held held' : List VariableSlots) (count' : ℕ) (v : Option Declared) → i < length found → v ≡ get_or found i None
     → held' ≡ held ++ held_of v count ∷ [] → count' ≡ count + copies_held v → Lays found i held count → Lays found (suc i) held' count'
 lays_turn found i count held held' count' v within is added counted l = record {
   held_so = λ ds h n e.
@@ -115,7 +115,7 @@ lays_turn found i count held held' count' v within is added counted l = record {
     more : (ds : List Declaration) → v ≡ option_map declared_of (declaration_in ds i) → count' ≡ count + copies_in (declared_factors (declaration_in ds i))
     more ds e = counted ∙ ap (λ k. count + k) (ap copies_held e ∙ copies_are (declaration_in ds i))
 
-pub lays_end : (found : List (Option Declared)) (i count : ℕ) (held : List Held) → i ≡ length found → Lays found i held count → AreLaidSlots found held count
+pub lays_end : (found : List (Option Declared)) (i count : ℕ) (held : List VariableSlots) → i ≡ length found → Lays found i held count → AreLaidSlots found held count
 lays_end found i count held is l = λ ds h. (sym (append-nil held) ∙ l.held_so ds h 0 (none is), l.count_so ds h 0 (none is))
   where
     none : i ≡ length found → i + 0 ≡ length found

@@ -15,8 +15,8 @@ use Rattle.dh_meaning.specs.Effects.{Event, reads, writes, kind_in, entry_kind}
 use Rattle.dh_extents.specs.Extents.{AreDims}
 use Rattle.dh_code.specs.Banks.{HasBank}
 use Rattle.dh_code.specs.declared.spending.Bank.{Bank}
-use Rattle.dh_code.specs.declared.evaluating.Stop.{Stop}
-use Rattle.dh_code.specs.declared.evaluating.Stop.TheVariants as stop
+use Rattle.dh_code.specs.declared.evaluating.StepStop.{StepStop}
+use Rattle.dh_code.specs.declared.evaluating.StepStop.TheVariants as stop
 use Rattle.dh_code.specs.Banks.{AreFirsts, first_bank, all_banks}
 use Rattle.dh_code.specs.Scenes.{Spends}
 use Rattle.dh_code.specs.Spent.{rows_now, left_now, ReadsRow, WritesRow, HaveSpent}
@@ -171,11 +171,11 @@ module _ (table : List MemEntry) (es : List Event) (now : ℕ) (s : Spot) (banks
   pub read_on : (A : Type 0) (b : Bool) (a : A) → b ≡ true → Reads at ports b → Spends {A = A} table (es ++ reads 0 place [] s ∷ []) now (Ok a) (slice_set banks at new)
   read_on A b a y r = subst (λ (k : ℕ). HaveSpent table (es ++ reads 0 place [] s ∷ []) now (slice_set banks k new)) (sym is) (banks_read table es now s banks d new there long h step place (moved_read true (subst (λ (t : Bool). Reads at ports t) y r)))
 
-  pub read_stuck : (A : Type 0) (b : Bool) (x : Stop) (after : List Bank) → b ≡ false → x ≡ stop.At (Stuck s.memory s.bank place) → Reads at ports b → Spends {A = A} table (es ++ reads 0 place [] s ∷ []) now (Err x) after
-  read_stuck A b x after n f r = subst (λ (y : Stop). Spends {A = A} table (es ++ reads 0 place [] s ∷ []) now (Err y) after) (sym f) (banks_stuck table es now s banks d new there long h step place (moved_read false (subst (λ (t : Bool). Reads at ports t) n r)))
+  pub read_stuck : (A : Type 0) (b : Bool) (x : StepStop) (after : List Bank) → b ≡ false → x ≡ stop.At (Stuck s.memory s.bank place) → Reads at ports b → Spends {A = A} table (es ++ reads 0 place [] s ∷ []) now (Err x) after
+  read_stuck A b x after n f r = subst (λ (y : StepStop). Spends {A = A} table (es ++ reads 0 place [] s ∷ []) now (Err y) after) (sym f) (banks_stuck table es now s banks d new there long h step place (moved_read false (subst (λ (t : Bool). Reads at ports t) n r)))
 
   pub write_on : (A : Type 0) (value : ℕ) (b : Bool) (a : A) → b ≡ true → Writes at ports b → Spends {A = A} table (es ++ writes 0 place [] s value ∷ []) now (Ok a) (slice_set banks at new)
   write_on A value b a y r = subst (λ (k : ℕ). HaveSpent table (es ++ writes 0 place [] s value ∷ []) now (slice_set banks k new)) (sym is) (banks_written table es now s banks d new there long h step place value (moved_write true (subst (λ (t : Bool). Writes at ports t) y r)))
 
-  pub write_full : (A : Type 0) (value : ℕ) (b : Bool) (x : Stop) (after : List Bank) → b ≡ false → x ≡ stop.At (Stuck s.memory s.bank place) → Writes at ports b → Spends {A = A} table (es ++ writes 0 place [] s value ∷ []) now (Err x) after
-  write_full A value b x after n f r = subst (λ (y : Stop). Spends {A = A} table (es ++ writes 0 place [] s value ∷ []) now (Err y) after) (sym f) (banks_full table es now s banks d new there long h step place value (moved_write false (subst (λ (t : Bool). Writes at ports t) n r)))
+  pub write_full : (A : Type 0) (value : ℕ) (b : Bool) (x : StepStop) (after : List Bank) → b ≡ false → x ≡ stop.At (Stuck s.memory s.bank place) → Writes at ports b → Spends {A = A} table (es ++ writes 0 place [] s value ∷ []) now (Err x) after
+  write_full A value b x after n f r = subst (λ (y : StepStop). Spends {A = A} table (es ++ writes 0 place [] s value ∷ []) now (Err y) after) (sym f) (banks_full table es now s banks d new there long h step place value (moved_write false (subst (λ (t : Bool). Writes at ports t) n r)))

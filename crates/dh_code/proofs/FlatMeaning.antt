@@ -8,12 +8,12 @@ use Rattle.dh_meaning.specs.Paths.{Path}
 use Rattle.dh_meaning.specs.Core.{Reach, CoreTerm, literal, truth_literal, variable, read, binary, convert, by_indices, by_row, by_views, CoreTerms, no_terms, term_and}
 use Rattle.dh_meaning.specs.Core as core
 use Rattle.dh_meaning.specs.Effects.{Begun, Effect, Event, Variables, reads, writes, faults, read_made, spot_reached, stop_after, target_events, term_events, terms_events, value_of_term}
-use Rattle.dh_code.specs.declared.codes.Flat.{Flat}
-use Rattle.dh_code.specs.declared.codes.Operation.{Operation}
-use Rattle.dh_code.specs.declared.evaluating.Scene.{Scene}
-use Rattle.dh_code.specs.declared.evaluating.Stop.{Stop}
-use Rattle.dh_code.specs.declared.evaluating.Stop.TheVariants as stop
-use Rattle.dh_code.specs.declared.running.State.{State}
+use Rattle.dh_code.specs.declared.codes.FlatExpression.{FlatExpression}
+use Rattle.dh_code.specs.declared.codes.CodeOperation.{CodeOperation}
+use Rattle.dh_code.specs.declared.evaluating.StepContext.{StepContext}
+use Rattle.dh_code.specs.declared.evaluating.StepStop.{StepStop}
+use Rattle.dh_code.specs.declared.evaluating.StepStop.TheVariants as stop
+use Rattle.dh_code.specs.declared.running.StepState.{StepState}
 use Rattle.dh_code.specs.declared.spending.Bank.{Bank}
 use Rattle.dh_code.specs.Coded.{AreSlotsOf, IsFlat}
 use Rattle.dh_code.specs.Made.{MadeExpression, term_made}
@@ -64,13 +64,13 @@ mutual
   none_in b v path (term_and t ts) = written_both (term_events b v path t) (terms_events b v path ts) (none_written b v path t) (none_in b v path ts)
 
 -- the operations of an expression, as they stand in code
-module _ (s : Scene) (scene : IsScene s) (p : Placing) (v : Variables) (factors : List ℕ) (path : Path) (t : CoreTerm) (f : Flat) (w : Sight)
+module _ (s : StepContext) (scene : IsScene s) (p : Placing) (v : Variables) (factors : List ℕ) (path : Path) (t : CoreTerm) (f : FlatExpression) (w : Sight)
     (h : Holds p w.slots v) (at : AreRanks factors w.ranks path) (is : IsFlat p.held s.entries.now s.code.now t f) (can : CanEvaluate s.entries.now p factors t) (room : length s.code.now.operations ≤ length w.given) where
   abbrev code : MadeExpression
   code = term_made p.held s.entries.now f.from t
 
   enough : f.from + length code.operations ≤ length w.given
-  enough = by (length code.operations) (sym (ap (λ (l : List Operation). length l) is.operations) ∙ length_range s.code.now.operations f.from f.to is.there)
+  enough = by (length code.operations) (sym (ap (λ (l : List CodeOperation). length l) is.operations) ∙ length_range s.code.now.operations f.from f.to is.there)
     where
       by : (n : ℕ) → n ≡ f.to - f.from → f.from + n ≤ length w.given
       by n e = let a = is.within in let c = is.there in omega (arith, e, a, c, room)
@@ -81,13 +81,13 @@ module _ (s : Scene) (scene : IsScene s) (p : Placing) (v : Variables) (factors 
   pub flat_value : flat_word s w f ≡ value_of_term (begun_in s) v path t
   flat_value =
       ap (λ o. operand_word (flat_sight s w f) o) is.value
-      ∙ (ap (λ (l : List Operation). operand_word (sight_after (begun_in s) w f.from l) code.value) is.operations ∙ right.value)
+      ∙ (ap (λ (l : List CodeOperation). operand_word (sight_after (begun_in s) w f.from l) code.value) is.operations ∙ right.value)
 
   pub flat_happens : flat_events s w f ≡ all_plain (term_events (begun_in s) v path t)
-  flat_happens = ap (λ (l : List Operation). events_after (begun_in s) w f.from l) is.operations ∙ right.events
+  flat_happens = ap (λ (l : List CodeOperation). events_after (begun_in s) w f.from l) is.operations ∙ right.events
 
 -- what is kept of an effect with further accesses of an expression
-pub kept_events : (p : Placing) (table : List MemEntry) (e : Effect) (now : ℕ) (old new : State) (v : Variables) (es : List Event) → Keeps p table e now old → Holds p new.variables.items v
+pub kept_events : (p : Placing) (table : List MemEntry) (e : Effect) (now : ℕ) (old new : StepState) (v : Variables) (es : List Event) → Keeps p table e now old → Holds p new.variables.items v
     → writes_in es ≡ [] → new.writes.items ≡ old.writes.items → HaveSpent table (all_plain e.events ++ all_plain es) now new.banks.items
     → Keeps p table (record { variables = v; events = e.events ++ es }) now new
 kept_events p table e now old new v es k h none same spent = record {
@@ -97,11 +97,11 @@ kept_events p table e now old new v es k h none same spent = record {
 }
 
 -- events that stop
-pub stopped_events : (A B : Type 0) (p : Placing) (table : List MemEntry) (e : Effect) (now : ℕ) (banks : List Bank) (new : State) (v : Variables) (es : List Event) (x : Stop) (result : Result B Stop) → result ≡ Err x
+pub stopped_events : (A B : Type 0) (p : Placing) (table : List MemEntry) (e : Effect) (now : ℕ) (banks : List Bank) (new : StepState) (v : Variables) (es : List Event) (x : StepStop) (result : Result B StepStop) → result ≡ Err x
     → Spends {A = A} table (all_plain e.events ++ all_plain es) now (Err x) banks → Ends {A = B} p table (record { variables = v; events = e.events ++ es }) now result new
-stopped_events A B p table e now banks new v es x result is h = subst (λ (r : Result B Stop). Ends p table (record { variables = v; events = e.events ++ es }) now r new) (sym is) (by x h)
+stopped_events A B p table e now banks new v es x result is h = subst (λ (r : Result B StepStop). Ends p table (record { variables = v; events = e.events ++ es }) now r new) (sym is) (by x h)
   where
-    by : (x : Stop) → Spends {A = A} table (all_plain e.events ++ all_plain es) now (Err x) banks → Ends {A = B} p table (record { variables = v; events = e.events ++ es }) now (Err x) new
+    by : (x : StepStop) → Spends {A = A} table (all_plain e.events ++ all_plain es) now (Err x) banks → Ends {A = B} p table (record { variables = v; events = e.events ++ es }) now (Err x) new
     by (stop.At o) h = ap (λ l. stop_after table [] l) (plain_append e.events es) ∙ h
     by stop.NoMemory h = tt
 

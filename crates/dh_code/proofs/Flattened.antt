@@ -16,11 +16,11 @@ use Rattle.dh_meaning.specs.Effects.{kind_in}
 use Rattle.dh_code.specs.declared.codes.Code.{Code}
 use Rattle.dh_code.specs.declared.codes.Operand.{Operand}
 use Rattle.dh_code.specs.declared.codes.Operand.TheVariants.{Given}
-use Rattle.dh_code.specs.declared.codes.Operation.{Operation}
-use Rattle.dh_code.specs.declared.codes.Operation.TheVariants.{Binary, Convert, Read}
+use Rattle.dh_code.specs.declared.codes.CodeOperation.{CodeOperation}
+use Rattle.dh_code.specs.declared.codes.CodeOperation.TheVariants.{Binary, Convert, Read}
 use Rattle.dh_code.specs.declared.codes.Target.{Target}
 use Rattle.dh_code.specs.declared.codes.Target.TheVariants.{Row}
-use Rattle.dh_code.specs.declared.places.Held.{Held}
+use Rattle.dh_code.specs.declared.places.VariableSlots.{VariableSlots}
 use Rattle.dh_code.specs.Extended.{extension_of}
 use Rattle.dh_code.specs.Flattening.{AddsOnlyOperations, AreMade, IsExpressionMade, IsOneMore, extended_made}
 use Rattle.dh_code.specs.Made.{AllMade, MadeExpression, access_to, binary_made, converted_made, one_more, read_of, term_made, terms_made}
@@ -32,19 +32,19 @@ use Rattle.dh_code.proofs.MadeParts.{operation_is}
 pub adds_none : (c : Code) → AddsOnlyOperations c c []
 adds_none c = record { operations = sym (append-nil c.operations); steps = refl }
 
-pub adds_then : (a b c : Code) (xs ys : List Operation) → AddsOnlyOperations a b xs → AddsOnlyOperations b c ys → AddsOnlyOperations a c (xs ++ ys)
+pub adds_then : (a b c : Code) (xs ys : List CodeOperation) → AddsOnlyOperations a b xs → AddsOnlyOperations b c ys → AddsOnlyOperations a c (xs ++ ys)
 adds_then a b c xs ys h k = record {
   operations = k.operations ∙ (ap (λ l. l ++ ys) h.operations ∙ append_assoc a.operations xs ys);
   steps = k.steps ∙ h.steps;
 }
 
-pub adds_long : (a b : Code) (xs : List Operation) → AddsOnlyOperations a b xs → length b.operations ≡ length a.operations + length xs
+pub adds_long : (a b : Code) (xs : List CodeOperation) → AddsOnlyOperations a b xs → length b.operations ≡ length a.operations + length xs
 adds_long a b xs h = ap (λ l. length l) h.operations ∙ length-append a.operations xs
 
 -- one operation more behind what was made
-pub made_more : (a b c : Code) (xs : List Operation) (x y : Operation) (k : Kind) (o : Operand) → AddsOnlyOperations a b xs → x ≡ y → IsOneMore b c x k o → IsExpressionMade a c o (one_more (length a.operations) xs y k)
+pub made_more : (a b c : Code) (xs : List CodeOperation) (x y : CodeOperation) (k : Kind) (o : Operand) → AddsOnlyOperations a b xs → x ≡ y → IsOneMore b c x k o → IsExpressionMade a c o (one_more (length a.operations) xs y k)
 made_more a b c xs x y k o h same i = record {
-  adds = subst (λ (z : Operation). AddsOnlyOperations a c (xs ++ z ∷ [])) same (adds_then a b c xs (x ∷ []) h i.adds);
+  adds = subst (λ (z : CodeOperation). AddsOnlyOperations a c (xs ++ z ∷ [])) same (adds_then a b c xs (x ∷ []) h i.adds);
   value = i.value ∙ ap (λ n. Given k n (mask_of k)) (adds_long a b xs h);
 }
 
@@ -67,7 +67,7 @@ binary_more a middle b c op left right o k l r is h h' i =
     (ap (λ x. Binary op x right) h.value ∙ ap (λ x. Binary op l.value x) h'.value) i)
 
 -- an operator on expressions
-pub binary_flat : (held : List Held) (table : List MemEntry) (a middle c : Code) (o : Operand) (op : Op) (j k to : Kind) (l r : CoreTerm) (left : Operand) → to ≡ extension_of op j k
+pub binary_flat : (held : List VariableSlots) (table : List MemEntry) (a middle c : Code) (o : Operand) (op : Op) (j k to : Kind) (l r : CoreTerm) (left : Operand) → to ≡ extension_of op j k
     → IsExpressionMade a middle left (extended_made (length a.operations) to (term_made held table (length a.operations) l))
     → IsExpressionMade a c o (binary_made (length a.operations) op (extended_made (length a.operations) to (term_made held table (length a.operations) l)) (extended_made (length middle.operations) to (term_made held table (length middle.operations) r)))
     → IsExpressionMade a c o (term_made held table (length a.operations) (operation_of op j k l r))
@@ -80,7 +80,7 @@ binary_flat held table a middle c o op j k to l r left is h i =
     one = term_made held table (length a.operations) l
 
 -- an element that is read by its indices, or in a row
-pub read_flat : (table : List MemEntry) (a b c : Code) (o : Operand) (reach : Reach) (place : Place) (memory : ℕ) (xs : List Operation) (t t' : Target) → place ≡ reach.place → memory ≡ reach.memory → AddsOnlyOperations a b xs → t ≡ t'
+pub read_flat : (table : List MemEntry) (a b c : Code) (o : Operand) (reach : Reach) (place : Place) (memory : ℕ) (xs : List CodeOperation) (t t' : Target) → place ≡ reach.place → memory ≡ reach.memory → AddsOnlyOperations a b xs → t ≡ t'
     → IsOneMore b c (Read (record { place = place; memory = memory; target = t })) (kind_in table memory) o → IsExpressionMade a c o (read_of table (length a.operations) reach xs t')
 read_flat table a b c o reach place memory xs t t' p n h same i =
     subst (λ (z : ℕ). IsExpressionMade a c o (one_more (length a.operations) xs (Read (access_to reach t')) (kind_in table z))) n
@@ -99,7 +99,7 @@ row_flat table a b c o reach place memory bank row m p n h i =
     ∙ ap (λ x. Read (record { place = reach.place; memory = reach.memory; target = Row bank x })) h.value)) i)
 
 -- indices up to one
-module _ (known : Known) (held : List Held) (table : List MemEntry) where
+module _ (known : Known) (held : List VariableSlots) (table : List MemEntry) where
   abbrev all_terms : ℕ → List Expr → CoreTerms
   all_terms n es = core_terms known n (terms (map term_seen es))
 

@@ -22,10 +22,10 @@ use Rattle.dh_meaning.specs.Effects.{bits_of, kind_in}
 use Rattle.dh_code.specs.declared.codes.Code.{Code}
 use Rattle.dh_code.specs.declared.codes.Operand.{Operand}
 use Rattle.dh_code.specs.declared.codes.Operand.TheVariants.{Constant}
-use Rattle.dh_code.specs.declared.codes.Operation.TheVariants.{Read}
+use Rattle.dh_code.specs.declared.codes.CodeOperation.TheVariants.{Read}
 use Rattle.dh_code.specs.declared.codes.Target.{Target}
 use Rattle.dh_code.specs.declared.codes.Target.TheVariants.{Row}
-use Rattle.dh_code.specs.declared.places.Held.{Held}
+use Rattle.dh_code.specs.declared.places.VariableSlots.{VariableSlots}
 use Rattle.dh_code.specs.Extended.{extension_of}
 use Rattle.dh_code.specs.Flattening.{AddsBinary, AreMade, ConvertsTo, ExtendsTo, IsExpressionMade, IsOneMore}
 use Rattle.dh_code.specs.Made.{Aimed, aimed_target, read_of, term_made, terms_made, variable_operand}
@@ -44,7 +44,7 @@ cast_form form inner to is e a = ap form_seen is ∙ (cast_is inner to ∙ ap (�
 pub bank_form : (form : ExprForm) (of : Ref) (bank : ℕ) (bank_place : Place) (row : _) → form ≡ Physical of bank bank_place row → (r : Expr) → r ≡ row.value → form_seen form ≡ in_bank of bank bank_place (term_seen r)
 bank_form form of bank bank_place row is r same = ap form_seen is ∙ (physical_is of bank bank_place row ∙ ap (λ e. in_bank of bank bank_place (term_seen e)) (sym same))
 
-module _ (known : Known) (held : List Held) (table : List MemEntry) (place : Place) (k k' : Kind) (kinds : k' ≡ k) (f : TermForm) where
+module _ (known : Known) (held : List VariableSlots) (table : List MemEntry) (place : Place) (k k' : Kind) (kinds : k' ≡ k) (f : TermForm) where
   abbrev flats : (a c : Code) (o : Operand) → (n : ℕ) → TermForm → Type 0
   flats a c o n g = IsSuited table (core_form known n place k g) → IsExpressionMade a c o (term_made held table (length a.operations) (core_form known n place k g))
 

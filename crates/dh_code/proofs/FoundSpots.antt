@@ -12,9 +12,9 @@ use Rattle.dh_value.specs.Words as words
 use Rattle.dh_code.specs.declared.codes.Access.{Access}
 use Rattle.dh_code.specs.declared.codes.Operand.{Operand}
 use Rattle.dh_code.specs.declared.codes.Target.TheVariants.{Indices, Row, Through}
-use Rattle.dh_code.specs.declared.evaluating.Scene.{Scene}
-use Rattle.dh_code.specs.declared.evaluating.Stop.{Stop}
-use Rattle.dh_code.specs.declared.evaluating.Stop.TheVariants as stop
+use Rattle.dh_code.specs.declared.evaluating.StepContext.{StepContext}
+use Rattle.dh_code.specs.declared.evaluating.StepStop.{StepStop}
+use Rattle.dh_code.specs.declared.evaluating.StepStop.TheVariants as stop
 use Rattle.dh_code.specs.declared.spending.Bank.{Bank}
 use Rattle.dh_code.specs.declared.spots.Spread.{Spread}
 use Rattle.dh_code.specs.Banks.{HasBank, IsSpread, LiesInRow, Spreads}
@@ -29,7 +29,7 @@ spot memory bank row position = record { memory = memory; bank = bank; row = row
 abbrev if_so : Bool → Spot → Option Spot
 if_so t s = if t then Some s else None
 
-module _ (s : Scene) (w : Sight) (a : Access) (ds : List Dim) (same : ds ≡ dims_at s.entries.now a.memory) (there : a.memory < length s.entries.now) where
+module _ (s : StepContext) (w : Sight) (a : Access) (ds : List Dim) (same : ds ≡ dims_at s.entries.now a.memory) (there : a.memory < length s.entries.now) where
   pub by_indices_leads : (operands : List Operand) (result : Option Spread) → a.target ≡ Indices operands → Spreads ds (index_values w operands) result → IsSpread ds result → AccessLeadsTo s w a result
   by_indices_leads operands None is h within =
       ap (λ t. target_spot (begun_in s) w a.memory t) is
@@ -65,7 +65,7 @@ module _ (s : Scene) (w : Sight) (a : Access) (ds : List Dim) (same : ds ≡ dim
     (there, subst (λ (b : ℕ). b < banks_of (dims_at s.entries.now a.memory)) (sym h.1.0) has.1),
   )
 
-module _ (s : Scene) (w : Sight) (a : Access) (ds : List Dim) (same : ds ≡ dims_at s.entries.now a.memory) (there : a.memory < length s.entries.now) (views : List ViewMap) (n : ℕ) (operands : List Operand) (is : a.target ≡ Through views n operands) where
+module _ (s : StepContext) (w : Sight) (a : Access) (ds : List Dim) (same : ds ≡ dims_at s.entries.now a.memory) (there : a.memory < length s.entries.now) (views : List ViewMap) (n : ℕ) (operands : List Operand) (is : a.target ≡ Through views n operands) where
   abbrev passed : Option (List ℤ)
   passed = indices_through (steps_of views) (take n (index_values w operands)) (drop n (index_values w operands))
 
@@ -95,8 +95,8 @@ module _ (s : Scene) (w : Sight) (a : Access) (ds : List Dim) (same : ds ≡ dim
           ns = map unsigned_abs zs
 
 -- an access out of range is a fault
-pub fault_spent : (A : Type 0) (s : Scene) (w : Sight) (a : Access) (es : List Event) (banks after : List Bank) (x : Stop) → x ≡ stop.At (Faulted OutOfRange a.place) → access_spot (begun_in s) w a ≡ None → HaveSpent s.entries.now es s.step banks
+pub fault_spent : (A : Type 0) (s : StepContext) (w : Sight) (a : Access) (es : List Event) (banks after : List Bank) (x : StepStop) → x ≡ stop.At (Faulted OutOfRange a.place) → access_spot (begun_in s) w a ≡ None → HaveSpent s.entries.now es s.step banks
     → Spends {A = A} s.entries.now (es ++ read_made (unnumbered a) [] (access_spot (begun_in s) w a) ∷ []) s.step (Err x) after
-fault_spent A s w a es banks after x is none h = subst (λ (y : Stop). Spends {A = A} s.entries.now (es ++ read_made (unnumbered a) [] (access_spot (begun_in s) w a) ∷ []) s.step (Err y) after) (sym is)
+fault_spent A s w a es banks after x is none h = subst (λ (y : StepStop). Spends {A = A} s.entries.now (es ++ read_made (unnumbered a) [] (access_spot (begun_in s) w a) ∷ []) s.step (Err y) after) (sym is)
     (ap (λ k. stop_after s.entries.now [] (es ++ read_made (unnumbered a) [] k ∷ [])) none
     ∙ stop_more s.entries.now [] es (faults 0 a.place [] OutOfRange ∷ []) h.clear)

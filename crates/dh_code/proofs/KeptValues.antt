@@ -8,13 +8,13 @@ use Rattle.dh_value.specs.Words.{residue}
 use Rattle.dh_meaning.specs.Paths.{Path}
 use Rattle.dh_meaning.specs.Core.{CoreTerms, no_terms, term_and, count_terms}
 use Rattle.dh_meaning.specs.Effects.{Begun, Effect, Event, Variables, kept_at, set_from, set_variable, terms_events, values_of}
-use Rattle.dh_code.specs.declared.codes.Flat.{Flat}
+use Rattle.dh_code.specs.declared.codes.FlatExpression.{FlatExpression}
 use Rattle.dh_code.specs.declared.codes.Kept.{Kept}
 use Rattle.dh_code.specs.declared.codes.Operand.{Operand}
-use Rattle.dh_code.specs.declared.codes.Operation.{Operation}
-use Rattle.dh_code.specs.declared.evaluating.Scene.{Scene}
-use Rattle.dh_code.specs.declared.evaluating.Stop.{Stop}
-use Rattle.dh_code.specs.declared.running.State.{State}
+use Rattle.dh_code.specs.declared.codes.CodeOperation.{CodeOperation}
+use Rattle.dh_code.specs.declared.evaluating.StepContext.{StepContext}
+use Rattle.dh_code.specs.declared.evaluating.StepStop.{StepStop}
+use Rattle.dh_code.specs.declared.running.StepState.{StepState}
 use Rattle.dh_code.specs.declared.spending.Bank.{Bank}
 use Rattle.dh_code.specs.Coded.{AreFlat, AreSlotsFrom, operands_kept}
 use Rattle.dh_code.specs.Made.{AllMade, terms_made}
@@ -65,7 +65,7 @@ found_end w old now ks i over h = sym (append-nil now) ∙ (ap (λ l. now ++ bit
 
 -- Variables that are set up to one.
 
-pub record SetSoFar (old now : State) (ranks : List ℕ) (depth : ℕ) (ks : List Kept) (bits : List ℕ) (i : ℕ) : Type 0 where
+pub record SetSoFar (old now : StepState) (ranks : List ℕ) (depth : ℕ) (ks : List Kept) (bits : List ℕ) (i : ℕ) : Type 0 where
   pub banks : now.banks ≡ old.banks
   pub given : now.given ≡ old.given
   pub writes : now.writes ≡ old.writes
@@ -73,10 +73,10 @@ pub record SetSoFar (old now : State) (ranks : List ℕ) (depth : ℕ) (ks : Lis
   pub slots : slots_kept now.variables.items ranks depth (drop i ks) (drop i bits) ≡ slots_kept old.variables.items ranks depth ks bits
   pub back : GoBackAlike old now
 
-pub set_first : (old : State) (ranks : List ℕ) (depth : ℕ) (ks : List Kept) (bits : List ℕ) → SetSoFar old old ranks depth ks bits 0
+pub set_first : (old : StepState) (ranks : List ℕ) (depth : ℕ) (ks : List Kept) (bits : List ℕ) → SetSoFar old old ranks depth ks bits 0
 set_first old ranks depth ks bits = record { banks = refl; given = refl; writes = refl; kept = refl; slots = refl; back = refl }
 
-set_turn : (old now new : State) (ranks : List ℕ) (depth : ℕ) (ks : List Kept) (bits : List ℕ) (i slot : ℕ) (k : Kept) → i < length ks → length bits ≡ length ks → k ≡ get_or ks i k → slot ≡ k.first + slice_index ranks depth
+set_turn : (old now new : StepState) (ranks : List ℕ) (depth : ℕ) (ks : List Kept) (bits : List ℕ) (i slot : ℕ) (k : Kept) → i < length ks → length bits ≡ length ks → k ≡ get_or ks i k → slot ≡ k.first + slice_index ranks depth
     → new.banks ≡ now.banks → new.given ≡ now.given → new.writes ≡ now.writes → length new.variables.items ≡ length now.variables.items → new.variables.items ≡ slice_set now.variables.items slot (get_or bits i 0) → GoBackAlike now new
     → SetSoFar old now ranks depth ks bits i → SetSoFar old new ranks depth ks bits (suc i)
 set_turn old now new ranks depth ks bits i slot k there long is at banks given writes kept set back h = record {
@@ -90,13 +90,13 @@ set_turn old now new ranks depth ks bits i slot k there long is at banks given w
   back = back ∙ h.back;
 }
 
-pub set_at : (old now new : State) (ranks : List ℕ) (depth : ℕ) (ks : List Kept) (bits : List ℕ) (i slot : ℕ) (k : Kept) → i < length ks → length bits ≡ length ks → slot ≡ (get_or ks i k).first + slice_index ranks depth
+pub set_at : (old now new : StepState) (ranks : List ℕ) (depth : ℕ) (ks : List Kept) (bits : List ℕ) (i slot : ℕ) (k : Kept) → i < length ks → length bits ≡ length ks → slot ≡ (get_or ks i k).first + slice_index ranks depth
     → new.banks ≡ now.banks → new.given ≡ now.given → new.writes ≡ now.writes → length new.variables.items ≡ length now.variables.items → new.variables.items ≡ slice_set now.variables.items slot (get_or bits i 0) → GoBackAlike now new
     → SetSoFar old now ranks depth ks bits i → SetSoFar old new ranks depth ks bits (suc i)
 set_at old now new ranks depth ks bits i slot k there long at banks given writes kept set back h =
     set_turn old now new ranks depth ks bits i slot (get_or ks i k) there long (get_whatever ks i k (get_or ks i k) there) at banks given writes kept set back h
 
-pub set_end : (old now : State) (ranks : List ℕ) (depth : ℕ) (ks : List Kept) (bits : List ℕ) (i : ℕ) → length ks ≤ i → SetSoFar old now ranks depth ks bits i → now.variables.items ≡ slots_kept old.variables.items ranks depth ks bits
+pub set_end : (old now : StepState) (ranks : List ℕ) (depth : ℕ) (ks : List Kept) (bits : List ℕ) (i : ℕ) → length ks ≤ i → SetSoFar old now ranks depth ks bits i → now.variables.items ≡ slots_kept old.variables.items ranks depth ks bits
 set_end old now ranks depth ks bits i over h = sym (ap (λ l. slots_kept now.variables.items ranks depth l (drop i bits)) (drop_past ks i over)) ∙ h.slots
 
 -- slots that are set hold the variables that are set
@@ -126,9 +126,9 @@ all_held p factors ranks path deep depth at (k ∷ ks) (term_and t ts) (z ∷ zs
     less a b e = omega (arith, e)
 
 -- Values, as they stand in code.
-module _ (s : Scene) (scene : IsScene s) (p : Placing) (factors ranks : List ℕ) (path : Path) (ts : CoreTerms) (from to : ℕ) (ks : List Kept) (value : Operand) (e : Effect) (old middle : State)
+module _ (s : StepContext) (scene : IsScene s) (p : Placing) (factors ranks : List ℕ) (path : Path) (ts : CoreTerms) (from to : ℕ) (ks : List Kept) (value : Operand) (e : Effect) (old middle : StepState)
     (at : AreRanks factors ranks path) (are : AreFlat p.held s.entries.now s.code.now ts from to (operands_kept ks)) (can : CanEvaluateAll s.entries.now p factors ts) (k : Keeps p s.entries.now e s.step old) (ready : IsReadyState s old) where
-  abbrev all : Flat
+  abbrev all : FlatExpression
   all = record { from = from; to = to; value = value }
 
   abbrev made : AllMade
@@ -141,7 +141,7 @@ module _ (s : Scene) (scene : IsScene s) (p : Placing) (factors ranks : List ℕ
   happens = terms_events (begun_in s) e.variables path ts
 
   room_for_all : from + length made.operations ≤ length old.given.items
-  room_for_all = by (length made.operations) (sym (ap (λ (l : List Operation). length l) are.operations) ∙ length_range s.code.now.operations from to are.there)
+  room_for_all = by (length made.operations) (sym (ap (λ (l : List CodeOperation). length l) are.operations) ∙ length_range s.code.now.operations from to are.there)
     where
       by : (n : ℕ) → n ≡ to - from → from + n ≤ length old.given.items
       by n e = let a = are.within in let c = are.there in let r = ready.room in omega (arith, e, a, c, r)
@@ -152,19 +152,19 @@ module _ (s : Scene) (scene : IsScene s) (p : Placing) (factors ranks : List ℕ
   found_values : (w : Sight) → w ≡ flat_sight s (sight_in old ranks) all → index_values w (operands_kept ks) ≡ zs
   found_values w seen =
       ap (λ (x : Sight). index_values x (operands_kept ks)) seen
-      ∙ (ap (λ (l : List Operation). index_values (sight_after (begun_in s) (sight_in old ranks) from l) (operands_kept ks)) are.operations
+      ∙ (ap (λ (l : List CodeOperation). index_values (sight_after (begun_in s) (sight_in old ranks) from l) (operands_kept ks)) are.operations
       ∙ (ap (λ l. index_values (sight_after (begun_in s) (sight_in old ranks) from made.operations) l) are.values ∙ right.values))
 
   found_events : flat_events s (sight_in old ranks) all ≡ all_plain happens
-  found_events = ap (λ (l : List Operation). events_after (begun_in s) (sight_in old ranks) from l) are.operations ∙ right.events
+  found_events = ap (λ (l : List CodeOperation). events_after (begun_in s) (sight_in old ranks) from l) are.operations ∙ right.events
 
-  pub values_stop : (A B : Type 0) (x : Stop) (result : Result B Stop) (v : Variables) (new : State) → result ≡ Err x → SpendsFlat {A = A} s old (Err x) middle ranks all
+  pub values_stop : (A B : Type 0) (x : StepStop) (result : Result B StepStop) (v : Variables) (new : StepState) → result ≡ Err x → SpendsFlat {A = A} s old (Err x) middle ranks all
       → Ends {A = B} p s.entries.now (record { variables = v; events = e.events ++ happens }) s.step result new
   values_stop A B x result v new stopped spends =
       stopped_events A B p s.entries.now e s.step middle.banks.items new v happens x result stopped
       (subst (λ (l : List Event). Spends {A = A} s.entries.now (all_plain e.events ++ l) s.step (Err x) middle.banks.items) found_events (spends (all_plain e.events) k.spent))
 
-  pub values_keep : (deep entity depth : ℕ) (bits : List ℕ) (new : State) → AreSlotsFrom p.held entity depth ks → AreInsideFrom p factors deep entity ts → KeepsVariables old middle
+  pub values_keep : (deep entity depth : ℕ) (bits : List ℕ) (new : StepState) → AreSlotsFrom p.held entity depth ks → AreInsideFrom p factors deep entity ts → KeepsVariables old middle
       → sight_in middle ranks ≡ flat_sight s (sight_in old ranks) all → SpendsFlat {A = Unit {0}} s old (Ok tt) middle ranks all → bits ≡ bits_kept (sight_in middle ranks) ks
       → new.banks ≡ middle.banks → new.writes ≡ middle.writes → new.variables.items ≡ slots_kept middle.variables.items ranks depth ks bits
       → Keeps p s.entries.now (kept_at (begun_in s) deep entity ts path e) s.step new

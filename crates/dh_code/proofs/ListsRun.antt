@@ -8,12 +8,12 @@ use Rattle.dh_meaning.specs.Core.{CoreTerm, store, assign, choose, keep, CoreCom
 use Rattle.dh_meaning.specs.Effects.{Begun, Effect, at_each, command_run, commands_run, holds_at, paths_where, tested_at}
 use Rattle.dh_code.specs.declared.codes.Action.{Action}
 use Rattle.dh_code.specs.declared.codes.Action.TheVariants.{Store, Assign, Keep, Choose}
-use Rattle.dh_code.specs.declared.codes.Flat.{Flat}
-use Rattle.dh_code.specs.declared.codes.Step.{Step}
-use Rattle.dh_code.specs.declared.evaluating.Scene.{Scene}
-use Rattle.dh_code.specs.declared.evaluating.Stop.{Stop}
-use Rattle.dh_code.specs.declared.running.State.{State}
-use Rattle.dh_code.specs.declared.codes.Operation.{Operation}
+use Rattle.dh_code.specs.declared.codes.FlatExpression.{FlatExpression}
+use Rattle.dh_code.specs.declared.codes.ListedCommand.{ListedCommand}
+use Rattle.dh_code.specs.declared.evaluating.StepContext.{StepContext}
+use Rattle.dh_code.specs.declared.evaluating.StepStop.{StepStop}
+use Rattle.dh_code.specs.declared.running.StepState.{StepState}
+use Rattle.dh_code.specs.declared.codes.CodeOperation.{CodeOperation}
 use Rattle.dh_code.specs.Coded.{AreCoded, IsCoded, IsFlat}
 use Rattle.dh_code.specs.Ranks.{ranks_of}
 use Rattle.dh_code.specs.Scenes.{IsAction, IsEarlier, IsScene, begun_in}
@@ -43,11 +43,11 @@ one_path factors rows n (path ∷ (other ∷ paths)) are = absurd (never are.are
     never e = absurd cc
 
 -- an `if` at one path
-module _ (s : Scene) (old : State) (rows : List (List ℕ)) (n : ℕ) (f : Flat) (one two : Option ℕ) (ranks : List ℕ) (row : ranks ≡ slice_index_or rows n []) where
+module _ (s : StepContext) (old : StepState) (rows : List (List ℕ)) (n : ℕ) (f : FlatExpression) (one two : Option ℕ) (ranks : List ℕ) (row : ranks ≡ slice_index_or rows n []) where
   at_path : (factors : List ℕ) (path : Path) → AreRows factors rows (n ∷ []) (path ∷ []) → AreRanks factors ranks path
   at_path factors path are = subst (λ (l : List ℕ). AreRanks factors l path) (sym row) (row_at factors rows (n ∷ []) (path ∷ []) 0 n are.are are.inside (omega arith)).0
 
-  pub choose_one : {A : Type 0} (b : Bool) (middle new : State) (result : Result A Stop) → Decides s old (Ok b) middle ranks f → DoesAll s middle result new rows (n ∷ []) (if b then one else two) → DoesOne s old result new rows (n ∷ []) (Choose f one two)
+  pub choose_one : {A : Type 0} (b : Bool) (middle new : StepState) (result : Result A StepStop) → Decides s old (Ok b) middle ranks f → DoesAll s middle result new rows (n ∷ []) (if b then one else two) → DoesOne s old result new rows (n ∷ []) (Choose f one two)
   choose_one b middle new result d does p factors paths (store r target value) are coded can e k = absurd coded
   choose_one b middle new result d does p factors paths (assign deep entity t) are coded can e k = absurd coded
   choose_one b middle new result d does p factors paths (keep deep entity values) are coded can e k = absurd coded
@@ -75,7 +75,7 @@ module _ (s : Scene) (old : State) (rows : List (List ℕ)) (n : ℕ) (f : Flat)
           let decided = d p factors path test (at_path factors path are') coded.0 can.0.1 in
           subst goal_at (sym is) (arm b path are' (decided.1 e k) does (decided.0 e k))
 
-  pub choose_stop_one : (A B : Type 0) (x : Stop) (middle new : State) (result : Result B Stop) → result ≡ Err x
+  pub choose_stop_one : (A B : Type 0) (x : StepStop) (middle new : StepState) (result : Result B StepStop) → result ≡ Err x
       → ((p : Placing) (factors : List ℕ) (path : Path) (t : CoreTerm) → AreRanks factors ranks path → IsFlat p.held s.entries.now s.code.now t f → CanEvaluate s.entries.now p factors t → Runs {A = A} p s old (Err x) middle (tested_at (begun_in s) t path))
       → DoesOne s old result new rows (n ∷ []) (Choose f one two)
   choose_stop_one A B x middle new result stopped d p factors paths (store r target value) are coded can e k = absurd coded
@@ -92,9 +92,9 @@ module _ (s : Scene) (old : State) (rows : List (List ℕ)) (n : ℕ) (f : Flat)
           (d p factors path test (at_path factors path are') coded.0 can.0.1 e k))
 
 -- an `if` at several paths
-module _ (s : Scene) (old : State) (rows : List (List ℕ)) (numbers : List ℕ) (f : Flat) (one two : Option ℕ) where
+module _ (s : StepContext) (old : StepState) (rows : List (List ℕ)) (numbers : List ℕ) (f : FlatExpression) (one two : Option ℕ) where
   -- the tests at all paths stop
-  pub choose_stop : (A B : Type 0) (x : Stop) (middle new : State) (result : Result B Stop) → result ≡ Err x
+  pub choose_stop : (A B : Type 0) (x : StepStop) (middle new : StepState) (result : Result B StepStop) → result ≡ Err x
       → ((p : Placing) (factors : List ℕ) (paths : List Path) (t : CoreTerm) → AreRows factors rows numbers paths → IsFlat p.held s.entries.now s.code.now t f → CanEvaluate s.entries.now p factors t → Runs {A = A} p s old (Err x) middle (at_each (tested_at (begun_in s) t) paths))
       → DoesOne s old result new rows numbers (Choose f one two)
   choose_stop A B x middle new result stopped d p factors paths (store r target value) are coded can e k = absurd coded
@@ -105,10 +105,10 @@ module _ (s : Scene) (old : State) (rows : List (List ℕ)) (numbers : List ℕ)
       (arms_grow (begun_in s) (paths_where true (holds_at (begun_in s) e.variables test) paths) (paths_where false (holds_at (begun_in s) e.variables test) paths) chosen other (at_each (tested_at (begun_in s) test) paths e)) stopped
       (d p factors paths test are coded.0 can.0.1 e k)
 
-  module _ (first second : List ℕ) (tested : State)
+  module _ (first second : List ℕ) (tested : StepState)
       (d : (p : Placing) (factors : List ℕ) (paths : List Path) (t : CoreTerm) → AreRows factors rows numbers paths → IsFlat p.held s.entries.now s.code.now t f → CanEvaluate s.entries.now p factors t
       → (e : Effect) → Keeps p s.entries.now e s.step old → Keeps p s.entries.now (at_each (tested_at (begun_in s) t) paths e) s.step tested × AreParts rows factors paths (holds_at (begun_in s) e.variables t) (first, second)) where
-    pub choose_stop_first : (A B : Type 0) (x : Stop) (middle new : State) (result : Result B Stop) → result ≡ Err x → DoesAll {A = A} s tested (Err x) middle rows first one → DoesOne s old result new rows numbers (Choose f one two)
+    pub choose_stop_first : (A B : Type 0) (x : StepStop) (middle new : StepState) (result : Result B StepStop) → result ≡ Err x → DoesAll {A = A} s tested (Err x) middle rows first one → DoesOne s old result new rows numbers (Choose f one two)
     choose_stop_first A B x middle new result stopped does p factors paths (store r target value) are coded can e k = absurd coded
     choose_stop_first A B x middle new result stopped does p factors paths (assign deep entity t) are coded can e k = absurd coded
     choose_stop_first A B x middle new result stopped does p factors paths (keep deep entity values) are coded can e k = absurd coded
@@ -118,7 +118,7 @@ module _ (s : Scene) (old : State) (rows : List (List ℕ)) (numbers : List ℕ)
         (commands_grow (begun_in s) (paths_where false (holds_at (begun_in s) e.variables test) paths) other _) stopped
         (does p factors (paths_where true (holds_at (begun_in s) e.variables test) paths) chosen h.1.0 coded.1.0 can.1.0 (at_each (tested_at (begun_in s) test) paths e) h.0)
 
-    pub choose_both : {A B : Type 0} (a : A) (middle new : State) (result : Result B Stop) → DoesAll {A = A} s tested (Ok a) middle rows first one → DoesAll s middle result new rows second two → DoesOne s old result new rows numbers (Choose f one two)
+    pub choose_both : {A B : Type 0} (a : A) (middle new : StepState) (result : Result B StepStop) → DoesAll {A = A} s tested (Ok a) middle rows first one → DoesAll s middle result new rows second two → DoesOne s old result new rows numbers (Choose f one two)
     choose_both a middle new result does does' p factors paths (store r target value) are coded can e k = absurd coded
     choose_both a middle new result does does' p factors paths (assign deep entity t) are coded can e k = absurd coded
     choose_both a middle new result does does' p factors paths (keep deep entity values) are coded can e k = absurd coded
@@ -133,7 +133,7 @@ abbrev pub list_rest : CoreCommands → CoreCommands
 list_rest no_commands = no_commands
 list_rest (command_and c cs) = cs
 
-pub run_first : (s : Scene) (old : State) (rows : List (List ℕ)) (numbers : List ℕ) (first : Option ℕ) → IsReadyState s old → RunSoFar s old rows numbers first old first
+pub run_first : (s : StepContext) (old : StepState) (rows : List (List ℕ)) (numbers : List ℕ) (first : Option ℕ) → IsReadyState s old → RunSoFar s old rows numbers first old first
 run_first s old rows numbers first ready = record {
   ready = ready;
   back = record { long = refl; back = refl };
@@ -141,12 +141,12 @@ run_first s old rows numbers first ready = record {
   ran = λ p factors paths cs are coded can e k. (cs, (e, ((coded, can), (k, refl))));
 }
 
-module _ (s : Scene) (old : State) (rows : List (List ℕ)) (numbers : List ℕ) (first : Option ℕ) (now : State) (list : Option ℕ) (g : RunSoFar s old rows numbers first now list) where
-  same_step : (a b : Step) → Some a ≡ Some b → a ≡ b
+module _ (s : StepContext) (old : StepState) (rows : List (List ℕ)) (numbers : List ℕ) (first : Option ℕ) (now : StepState) (list : Option ℕ) (g : RunSoFar s old rows numbers first now list) where
+  same_step : (a b : ListedCommand) → Some a ≡ Some b → a ≡ b
   same_step a b e = cc
 
-  module _ (n : ℕ) (step : Step) (is : list ≡ Some n) (get : slice_get s.code.now.steps n ≡ Some step) where
-    pub run_turn : (A : Type 0) (a : A) (new : State) → IsReadyState s new → KeepsBack now new → list_depth step.next ≤ n → DoesOne {A = A} s now (Ok a) new rows numbers step.action → RunSoFar s old rows numbers first new step.next
+  module _ (n : ℕ) (step : ListedCommand) (is : list ≡ Some n) (get : slice_get s.code.now.steps n ≡ Some step) where
+    pub run_turn : (A : Type 0) (a : A) (new : StepState) → IsReadyState s new → KeepsBack now new → list_depth step.next ≤ n → DoesOne {A = A} s now (Ok a) new rows numbers step.action → RunSoFar s old rows numbers first new step.next
     run_turn A a new ready back lower does = record {
       ready = ready;
       back = record { long = back.long ∙ g.back.long; back = back.back ∙ g.back.back };
@@ -170,13 +170,13 @@ module _ (s : Scene) (old : State) (rows : List (List ℕ)) (numbers : List ℕ)
               (
                 command_run (begun_in s) paths c so_far,
                 (
-                  (subst (λ (x : Step). AreCoded p.held s.entries.now s.code.now x.next rest) one there.1.1.1, can.1),
-                  (does p factors paths c are (subst (λ (x : Step). IsCoded p.held s.entries.now s.code.now x.action c) one there.1.1.0) can.0 so_far k, same),
+                  (subst (λ (x : ListedCommand). AreCoded p.held s.entries.now s.code.now x.next rest) one there.1.1.1, can.1),
+                  (does p factors paths c are (subst (λ (x : ListedCommand). IsCoded p.held s.entries.now s.code.now x.action c) one there.1.1.0) can.0 so_far k, same),
                 ),
               ),
             )
 
-    pub run_stop : (A B : Type 0) (x : Stop) (new new' : State) (result : Result B Stop) → result ≡ Err x → DoesOne {A = A} s now (Err x) new rows numbers step.action → DoesAll s old result new' rows numbers first
+    pub run_stop : (A B : Type 0) (x : StepStop) (new new' : StepState) (result : Result B StepStop) → result ≡ Err x → DoesOne {A = A} s now (Err x) new rows numbers step.action → DoesAll s old result new' rows numbers first
     run_stop A B x new new' result stopped does p factors paths cs are coded can e k = by (g.ran p factors paths cs are coded can e k)
       where
         by : (rest : CoreCommands) × ((so_far : Effect) × ((AreCoded p.held s.entries.now s.code.now list rest × CanDoAll s.entries.now p factors rest)
@@ -189,13 +189,13 @@ module _ (s : Scene) (old : State) (rows : List (List ℕ)) (numbers : List ℕ)
             subst (λ (y : Effect). Ends {A = B} p s.entries.now y s.step result new') same
             (ends_later A B p s.entries.now s.step (command_run (begun_in s) paths c so_far) (commands_run (begun_in s) paths rest (command_run (begun_in s) paths c so_far)) new new' x result
             (commands_grow (begun_in s) paths rest (command_run (begun_in s) paths c so_far)) stopped
-            (does p factors paths c are (subst (λ (z : Step). IsCoded p.held s.entries.now s.code.now z.action c) one there.1.1.0) can.0 so_far k))
+            (does p factors paths c are (subst (λ (z : ListedCommand). IsCoded p.held s.entries.now s.code.now z.action c) one there.1.1.0) can.0 so_far k))
 
   -- no command of this number is there: no list begins so
-  pub run_lost : (B : Type 0) (n : ℕ) (result : Result B Stop) → list ≡ Some n → slice_get s.code.now.steps n ≡ None → DoesAll s old result now rows numbers first
+  pub run_lost : (B : Type 0) (n : ℕ) (result : Result B StepStop) → list ≡ Some n → slice_get s.code.now.steps n ≡ None → DoesAll s old result now rows numbers first
   run_lost B n result is none p factors paths cs are coded can e k = by (g.ran p factors paths cs are coded can e k)
     where
-      never : (x : Step) → Some x ≡ None → ⊥
+      never : (x : ListedCommand) → Some x ≡ None → ⊥
       never x e = absurd cc
 
       by : (rest : CoreCommands) × ((so_far : Effect) × ((AreCoded p.held s.entries.now s.code.now list rest × CanDoAll s.entries.now p factors rest)
@@ -216,7 +216,7 @@ module _ (s : Scene) (old : State) (rows : List (List ℕ)) (numbers : List ℕ)
       by (command_and c rest, (so_far, ((coded, can), (k, same)))) = absurd (subst (λ (l : Option ℕ). AreCoded p.held s.entries.now s.code.now l (command_and c rest)) is coded)
 
 -- one part after the other
-pub run_more : (s : Scene) (old middle now : State) (rows : List (List ℕ)) (numbers : List ℕ) (first list rest : Option ℕ) → RunSoFar s old rows numbers first middle list → RunSoFar s middle rows numbers list now rest → RunSoFar s old rows numbers first now rest
+pub run_more : (s : StepContext) (old middle now : StepState) (rows : List (List ℕ)) (numbers : List ℕ) (first list rest : Option ℕ) → RunSoFar s old rows numbers first middle list → RunSoFar s middle rows numbers list now rest → RunSoFar s old rows numbers first now rest
 run_more s old middle now rows numbers first list rest g h = record {
   ready = h.ready;
   back = record { long = h.back.long ∙ g.back.long; back = h.back.back ∙ g.back.back };
@@ -231,7 +231,7 @@ run_more s old middle now rows numbers first list rest g h = record {
     under x y z a b = omega (arith, a, b)
 
 -- nothing is done where there is no command
-pub run_nothing : {A : Type 0} (s : Scene) (state : State) (rows : List (List ℕ)) (numbers : List ℕ) (a : A) → IsReadyState s state → DoesAll {A = A} s state (Ok a) state rows numbers None
+pub run_nothing : {A : Type 0} (s : StepContext) (state : StepState) (rows : List (List ℕ)) (numbers : List ℕ) (a : A) → IsReadyState s state → DoesAll {A = A} s state (Ok a) state rows numbers None
 run_nothing {A} s state rows numbers a ready = run_end s state rows numbers None state None (run_first s state rows numbers None ready) A a refl
 
 pub none_is : (o : Option ℕ) (t : Bool) → is_some o ≡ not t → t ≡ true → o ≡ None
@@ -241,13 +241,13 @@ none_is (Some n) false e f = absurd cc
 
 -- Where the commands of a list stand.
 
-pub found_step : (steps slice : List Step) (n : ℕ) (step : Step) → slice ≡ steps → n < length slice → step ≡ get_or slice n step → slice_get steps n ≡ Some step
-found_step steps slice n step same within is = subst (λ (l : List Step). slice_get l n ≡ Some step) same (slice_get-get_or slice n step within ∙ ap Some (sym is))
+pub found_step : (steps slice : List ListedCommand) (n : ℕ) (step : ListedCommand) → slice ≡ steps → n < length slice → step ≡ get_or slice n step → slice_get steps n ≡ Some step
+found_step steps slice n step same within is = subst (λ (l : List ListedCommand). slice_get l n ≡ Some step) same (slice_get-get_or slice n step within ∙ ap Some (sym is))
 
-pub lost_step : (steps slice : List Step) (n : ℕ) → slice ≡ steps → length slice ≤ n → slice_get steps n ≡ None
-lost_step steps slice n same past = subst (λ (l : List Step). slice_get l n ≡ None) same (slice_get_past slice n past)
+pub lost_step : (steps slice : List ListedCommand) (n : ℕ) → slice ≡ steps → length slice ≤ n → slice_get steps n ≡ None
+lost_step steps slice n same past = subst (λ (l : List ListedCommand). slice_get l n ≡ None) same (slice_get_past slice n past)
 
-pub step_does : (s : Scene) → IsScene s → (n : ℕ) (step : Step) (action : Action) → slice_get s.code.now.steps n ≡ Some step → step.action ≡ action → IsAction s.entries.now s.code.now.operations n action
+pub step_does : (s : StepContext) → IsScene s → (n : ℕ) (step : ListedCommand) (action : Action) → slice_get s.code.now.steps n ≡ Some step → step.action ≡ action → IsAction s.entries.now s.code.now.operations n action
 step_does s scene n step action get is = subst (λ (a : Action). IsAction s.entries.now s.code.now.operations n a) is (scene.code.steps n step get).action
 
 earlier_low : (n : ℕ) (o : Option ℕ) → IsEarlier n o → list_depth o ≤ n
@@ -257,7 +257,7 @@ earlier_low n (Some m) h = low m n h
     low : (m n : ℕ) → m < n → m + 1 ≤ n
     low m n h = omega (arith, h)
 
-pub next_low : (s : Scene) → IsScene s → (n : ℕ) (step : Step) → slice_get s.code.now.steps n ≡ Some step → list_depth step.next ≤ n
+pub next_low : (s : StepContext) → IsScene s → (n : ℕ) (step : ListedCommand) → slice_get s.code.now.steps n ≡ Some step → list_depth step.next ≤ n
 next_low s scene n step get = earlier_low n step.next (scene.code.steps n step get).next
 
 -- how deep the arms of a command are
@@ -267,7 +267,7 @@ action_depth (Assign f first depth) = 0
 action_depth (Keep from to values depth) = 0
 action_depth (Choose f one two) = max (list_depth one) (list_depth two)
 
-arms_under : (table : List MemEntry) (os : List Operation) (n : ℕ) (a : Action) → IsAction table os n a → action_depth a ≤ n
+arms_under : (table : List MemEntry) (os : List CodeOperation) (n : ℕ) (a : Action) → IsAction table os n a → action_depth a ≤ n
 arms_under table os n (Store f a) h = omega arith
 arms_under table os n (Assign f first depth) h = omega arith
 arms_under table os n (Keep from to values depth) h = omega arith
@@ -277,7 +277,7 @@ arms_under table os n (Choose f one two) h = less (list_depth one) (list_depth t
     less a b h k = omega (arith, h, k)
 
 -- a command of a list is less deep than the list
-pub action_lower : (s : Scene) → IsScene s → (n : ℕ) (step : Step) (first list : Option ℕ) → slice_get s.code.now.steps n ≡ Some step → list ≡ Some n → list_depth list ≤ list_depth first → 4 * action_depth step.action + 2 < 4 * list_depth first
+pub action_lower : (s : StepContext) → IsScene s → (n : ℕ) (step : ListedCommand) (first list : Option ℕ) → slice_get s.code.now.steps n ≡ Some step → list ≡ Some n → list_depth list ≤ list_depth first → 4 * action_depth step.action + 2 < 4 * list_depth first
 action_lower s scene n step first list get is low =
     less (action_depth step.action) (list_depth first) (arms_under s.entries.now s.code.now.operations n step.action (scene.code.steps n step get).action) (subst (λ (l : Option ℕ). list_depth l ≤ list_depth first) is low)
   where
@@ -285,7 +285,7 @@ action_lower s scene n step first list get is low =
     less a m h l = omega (arith, h, l)
 
 -- a command of code can be done
-pub can_be_done : (s : Scene) → IsScene s → (n : ℕ) (step : Step) → slice_get s.code.now.steps n ≡ Some step → CanBeDone s step.action
+pub can_be_done : (s : StepContext) → IsScene s → (n : ℕ) (step : ListedCommand) → slice_get s.code.now.steps n ≡ Some step → CanBeDone s step.action
 can_be_done s scene n step get = by step.action (scene.code.steps n step get).action
   where
     by : (a : Action) → IsAction s.entries.now s.code.now.operations n a → CanBeDone s a

@@ -19,9 +19,9 @@ use Rattle.dh_meaning.specs.Core.{Reach, CoreTerm, literal, truth_literal, varia
 use Rattle.dh_meaning.specs.Core as core
 use Rattle.dh_meaning.specs.CoreOf.{extended, operation_of}
 use Rattle.dh_meaning.specs.Effects.{kind_in}
-use Rattle.dh_code.specs.declared.codes.Operation.{Operation}
-use Rattle.dh_code.specs.declared.codes.Operation.TheVariants.{Binary, Convert, Read}
-use Rattle.dh_code.specs.declared.places.Held.{Held}
+use Rattle.dh_code.specs.declared.codes.CodeOperation.{CodeOperation}
+use Rattle.dh_code.specs.declared.codes.CodeOperation.TheVariants.{Binary, Convert, Read}
+use Rattle.dh_code.specs.declared.places.VariableSlots.{VariableSlots}
 use Rattle.dh_code.specs.Extended.{extension_of}
 use Rattle.dh_code.specs.Flattening.{extended_made}
 use Rattle.dh_code.specs.Made.{MadeExpression, access_to, binary_made, converted_made, one_more, target_made, term_made, terms_made}
@@ -31,7 +31,7 @@ use Rattle.dh_code.specs.Suited.{AreSuited, IsSuited, IsSuitedTarget, term_kind}
 use Rattle.dh_code.proofs.TermsGiven.{made_kind}
 use Rattle.dh_code.proofs.ValuesOfTerms.{bits_fit, sized_at, suits_at}
 
-module _ (held : List Held) (table : List MemEntry) where
+module _ (held : List VariableSlots) (table : List MemEntry) where
   abbrev code : ℕ → CoreTerm → MadeExpression
   code at t = term_made held table at t
 
@@ -94,7 +94,7 @@ module _ (held : List Held) (table : List MemEntry) where
   operands_suited op.Eq j k l r h = both_suited op.Eq j k l r h
   operands_suited op.Ne j k l r h = both_suited op.Ne j k l r h
 
-pub values_made : (held : List Held) (table : List MemEntry) (at : ℕ) (ts : CoreTerms) → length (terms_made held table at ts).values ≡ count_terms ts
+pub values_made : (held : List VariableSlots) (table : List MemEntry) (at : ℕ) (ts : CoreTerms) → length (terms_made held table at ts).values ≡ count_terms ts
 values_made held table at no_terms = refl
 values_made held table at (term_and t ts) = ap suc (values_made held table (at + length (term_made held table at t).operations) ts)
 
@@ -103,12 +103,12 @@ all_append P [] ys h k = k
 all_append P (x ∷ xs) ys h k = (h.0, all_append P xs ys h.1 k)
 
 -- Code of what suits can be done.
-module _ (held : List Held) (table : List MemEntry) (entries : AllByRecursion IsMemory table) where
+module _ (held : List VariableSlots) (table : List MemEntry) (entries : AllByRecursion IsMemory table) where
   pub record CanBeDone (m : MadeExpression) : Type 0 where
     pub operations : AllByRecursion (IsOperation table) m.operations
     pub value : IsValidOperand m.value
 
-  more_done : (at : ℕ) (os : List Operation) (o : Operation) (k : Kind) → AllByRecursion (IsOperation table) os → IsOperation table o → IsKind k → CanBeDone (one_more at os o k)
+  more_done : (at : ℕ) (os : List CodeOperation) (o : CodeOperation) (k : Kind) → AllByRecursion (IsOperation table) os → IsOperation table o → IsKind k → CanBeDone (one_more at os o k)
   more_done at os o k h i sized = record { operations = all_append (IsOperation table) os (o ∷ []) h (i, tt); value = (sized, refl) }
 
   kind_sized : (t : CoreTerm) → IsSuited table t → IsKind (term_kind table t)

@@ -10,11 +10,11 @@ use Rattle.dh_meaning.specs.Core.{CoreCommand}
 use Rattle.dh_meaning.specs.Effects.{Effect, at_each}
 use Rattle.dh_code.specs.declared.codes.Action.{Action}
 use Rattle.dh_code.specs.declared.codes.Action.TheVariants.{Assign}
-use Rattle.dh_code.specs.declared.codes.Flat.{Flat}
-use Rattle.dh_code.specs.declared.codes.Step.{Step}
-use Rattle.dh_code.specs.declared.evaluating.Scene.{Scene}
-use Rattle.dh_code.specs.declared.evaluating.Stop.{Stop}
-use Rattle.dh_code.specs.declared.running.State.{State}
+use Rattle.dh_code.specs.declared.codes.FlatExpression.{FlatExpression}
+use Rattle.dh_code.specs.declared.codes.ListedCommand.{ListedCommand}
+use Rattle.dh_code.specs.declared.evaluating.StepContext.{StepContext}
+use Rattle.dh_code.specs.declared.evaluating.StepStop.{StepStop}
+use Rattle.dh_code.specs.declared.running.StepState.{StepState}
 use Rattle.dh_code.specs.declared.running.Write.{Write}
 use Rattle.dh_code.specs.declared.spending.Bank.{Bank}
 use Rattle.dh_code.specs.Coded.{IsCoded}
@@ -31,7 +31,7 @@ use Rattle.dh_code.proofs.PlainValues.{nothing_changes, worth_spends}
 use Rattle.dh_code.proofs.Ranges.{items_same}
 use Rattle.dh_code.proofs.StatesKept.{assigned_keeps}
 
-pub done_alone : {A : Type 0} (s : Scene) (old new : State) (result : Result A Stop) (rows : List (List ℕ)) (n : ℕ) (action : Action) (ranks : List ℕ) → ranks ≡ slice_index_or rows n []
+pub done_alone : {A : Type 0} (s : StepContext) (old new : StepState) (result : Result A StepStop) (rows : List (List ℕ)) (n : ℕ) (action : Action) (ranks : List ℕ) → ranks ≡ slice_index_or rows n []
     → ((p : Placing) (factors : List ℕ) (path : Path) (c : CoreCommand) → AreRanks factors ranks path → IsCoded p.held s.entries.now s.code.now action c → CanDo s.entries.now p factors c → Runs p s old result new (at_one (begun_in s) c path))
     → (p : Placing) (factors : List ℕ) (paths : List Path) (c : CoreCommand) → AreRows factors rows (n ∷ []) paths → IsCoded p.held s.entries.now s.code.now action c → CanDo s.entries.now p factors c
     → (e : Effect) → Keeps p s.entries.now e s.step old → Ends {A = A} p s.entries.now (at_each (at_one (begun_in s) c) paths e) s.step result new
@@ -43,7 +43,7 @@ done_alone {A} s old new result rows n action ranks row one p factors paths c ar
         let at = subst (λ (l : List ℕ). AreRanks factors l path) (sym row) (row_at factors rows (n ∷ []) (path ∷ []) 0 n are'.are are'.inside (omega arith)).0 in
         subst (λ (ps : List Path). Ends {A = A} p s.entries.now (at_each (at_one (begun_in s) c) ps e) s.step result new) (sym is) (one p factors path c at coded can e k)
 
-pub assigned_alone : (s : Scene) (scene : IsScene s) (old new : State) (rows : List (List ℕ)) (numbers ranks : List ℕ) (f : Flat) (first depth slot bits : ℕ) (word : Word) → length numbers ≡ 1 → ranks ≡ slice_index_or rows (get_or numbers 0 0) [] → IsReadyState s old
+pub assigned_alone : (s : StepContext) (scene : IsScene s) (old new : StepState) (rows : List (List ℕ)) (numbers ranks : List ℕ) (f : FlatExpression) (first depth slot bits : ℕ) (word : Word) → length numbers ≡ 1 → ranks ≡ slice_index_or rows (get_or numbers 0 0) [] → IsReadyState s old
     → word ≡ flat_word s (sight_in old ranks) f → flat_events s (sight_in old ranks) f ≡ [] → slot ≡ first + slice_index ranks depth → bits ≡ residue (2 ^ 64) (words.value_of word)
     → new.banks ≡ old.banks → new.writes ≡ old.writes → IsAssigned old new slot bits → DoesOne {A = Unit {0}} s old (Ok tt) new rows numbers (Assign f first depth)
 assigned_alone s scene old new rows numbers ranks f first depth slot bits word one row ready worth none there whole banks written set =
@@ -56,7 +56,7 @@ assigned_alone s scene old new rows numbers ranks f first depth slot bits word o
     (worth_spends {A = Word} s (sight_in old ranks) f old.banks.items word none) there whole banks written set))))
 
 -- a state stays one of its step
-ready_still : (s : Scene) (old new : State) → IsReadyState s old → new.banks ≡ old.banks → new.given ≡ old.given → new.writes ≡ old.writes → IsReadyState s new
+ready_still : (s : StepContext) (old new : StepState) → IsReadyState s old → new.banks ≡ old.banks → new.given ≡ old.given → new.writes ≡ old.writes → IsReadyState s new
 ready_still s old new r banks given written = record {
   long = ap (λ (l : List Bank). length l) (items_same _ _ banks) ∙ r.long;
   room = subst (λ (l : List ℕ). length s.code.now.operations ≤ length l) (sym (items_same _ _ given)) r.room;
@@ -65,7 +65,7 @@ ready_still s old new r banks given written = record {
 }
 
 -- a list with one such assignment more
-pub assigned_turn : (s : Scene) (scene : IsScene s) (old now new : State) (rows : List (List ℕ)) (numbers ranks : List ℕ) (whole list : Option ℕ) (n : ℕ) (step : Step) (f : Flat) (first depth slot bits : ℕ) (word : Word)
+pub assigned_turn : (s : StepContext) (scene : IsScene s) (old now new : StepState) (rows : List (List ℕ)) (numbers ranks : List ℕ) (whole list : Option ℕ) (n : ℕ) (step : ListedCommand) (f : FlatExpression) (first depth slot bits : ℕ) (word : Word)
     → RunSoFar s old rows numbers whole now list → list ≡ Some n → slice_get s.code.now.steps n ≡ Some step → step.action ≡ Assign f first depth → length numbers ≡ 1 → ranks ≡ slice_index_or rows (get_or numbers 0 0) []
     → word ≡ flat_word s (sight_in now ranks) f → flat_events s (sight_in now ranks) f ≡ [] → slot ≡ first + slice_index ranks depth → bits ≡ residue (2 ^ 64) (words.value_of word)
     → new.banks ≡ now.banks → new.given ≡ now.given → new.writes ≡ now.writes → length new.variables.items ≡ length now.variables.items → IsAssigned now new slot bits → GoBackAlike now new → RunSoFar s old rows numbers whole new step.next

@@ -4,17 +4,17 @@ use Rattle.std.specs.Prelude.{Result, slice_set}
 use Rattle.std.proofs.Math.Seq.{drop-cons}
 use Rattle.std.proofs.lemmas.List.{length-set}
 use Rattle.dh_meaning.specs.Effects.{Event, stop_after}
-use Rattle.dh_code.specs.declared.codes.Operation.{Operation}
-use Rattle.dh_code.specs.declared.evaluating.Scene.{Scene}
-use Rattle.dh_code.specs.declared.evaluating.Stop.{Stop}
-use Rattle.dh_code.specs.declared.evaluating.Stop.TheVariants as stop
+use Rattle.dh_code.specs.declared.codes.CodeOperation.{CodeOperation}
+use Rattle.dh_code.specs.declared.evaluating.StepContext.{StepContext}
+use Rattle.dh_code.specs.declared.evaluating.StepStop.{StepStop}
+use Rattle.dh_code.specs.declared.evaluating.StepStop.TheVariants as stop
 use Rattle.dh_code.specs.declared.spending.Bank.{Bank}
 use Rattle.dh_code.specs.Operated.{Sight, events_after, events_of_operation, word_of_operation, sight, sight_after, with_given}
 use Rattle.dh_code.specs.Scenes.{Spends, SpendsMore, begun_in}
 use Rattle.dh_code.specs.Spent.{HaveSpent, StayUsed}
 use Rattle.dh_code.proofs.BanksSpent.{stop_stays}
 
-pub record Operates (s : Scene) (slots ranks : List ℕ) (at : ℕ) (os : List Operation) (first : List ℕ) (banks_first : List Bank) (i : ℕ) (given : List ℕ) (banks : List Bank) : Type 0 where
+pub record Operates (s : StepContext) (slots ranks : List ℕ) (at : ℕ) (os : List CodeOperation) (first : List ℕ) (banks_first : List Bank) (i : ℕ) (given : List ℕ) (banks : List Bank) : Type 0 where
   pub long : length banks ≡ length banks_first
   pub room : length given ≡ length first
   pub used : StayUsed s.step banks_first banks
@@ -22,7 +22,7 @@ pub record Operates (s : Scene) (slots ranks : List ℕ) (at : ℕ) (os : List O
   pub spent : (es : List Event) → HaveSpent s.entries.now es s.step banks_first
       → (so_far : List Event) × (HaveSpent s.entries.now so_far s.step banks × (so_far ++ events_after (begun_in s) (sight slots given ranks) (at + i) (drop i os) ≡ es ++ events_after (begun_in s) (sight slots first ranks) at os))
 
-module _ (s : Scene) (slots ranks : List ℕ) (at : ℕ) (os : List Operation) (first : List ℕ) (banks_first : List Bank) where
+module _ (s : StepContext) (slots ranks : List ℕ) (at : ℕ) (os : List CodeOperation) (first : List ℕ) (banks_first : List Bank) where
   pub operates_first : Operates s slots ranks at os first banks_first 0 first banks_first
   operates_first = record {
     long = refl;
@@ -35,7 +35,7 @@ module _ (s : Scene) (slots ranks : List ℕ) (at : ℕ) (os : List Operation) (
       none : at + 0 ≡ at
       none = omega arith
 
-  module _ (i : ℕ) (given : List ℕ) (banks : List Bank) (o : Operation) (within : i < length os) (is : o ≡ get_or os i o) (h : Operates s slots ranks at os first banks_first i given banks) where
+  module _ (i : ℕ) (given : List ℕ) (banks : List Bank) (o : CodeOperation) (within : i < length os) (is : o ≡ get_or os i o) (h : Operates s slots ranks at os first banks_first i given banks) where
     abbrev now : Sight
     now = sight slots given ranks
 
@@ -72,25 +72,25 @@ module _ (s : Scene) (slots ranks : List ℕ) (at : ℕ) (os : List Operation) (
       );
     }
 
-    pub operates_stop : (A B : Type 0) (x : Stop) (banks' after : List Bank) (result : Result B Stop) → result ≡ Err x → SpendsMore {A = A} s banks (Err x) banks' (events_of_operation (begun_in s) now o)
+    pub operates_stop : (A B : Type 0) (x : StepStop) (banks' after : List Bank) (result : Result B StepStop) → result ≡ Err x → SpendsMore {A = A} s banks (Err x) banks' (events_of_operation (begun_in s) now o)
         → SpendsMore {A = B} s banks_first result after (events_after (begun_in s) (sight slots first ranks) at os)
     operates_stop A B x banks' after result stopped spends = λ es k. by es x result stopped (h.spent es k) spends
       where
-        by : (es : List Event) (x : Stop) (result : Result B Stop) → result ≡ Err x
+        by : (es : List Event) (x : StepStop) (result : Result B StepStop) → result ≡ Err x
             → (so_far : List Event) × (HaveSpent s.entries.now so_far s.step banks × (so_far ++ events_after (begun_in s) now (at + i) (drop i os) ≡ es ++ events_after (begun_in s) (sight slots first ranks) at os))
             → SpendsMore {A = A} s banks (Err x) banks' (events_of_operation (begun_in s) now o) → Spends {A = B} s.entries.now (es ++ events_after (begun_in s) (sight slots first ranks) at os) s.step result after
         by es (stop.At outcome) result e g f =
-            subst (λ (r : Result B Stop). Spends {A = B} s.entries.now (es ++ events_after (begun_in s) (sight slots first ranks) at os) s.step r after) (sym e)
+            subst (λ (r : Result B StepStop). Spends {A = B} s.entries.now (es ++ events_after (begun_in s) (sight slots first ranks) at os) s.step r after) (sym e)
             (ap (λ l. stop_after s.entries.now [] l)
             (sym g.1.1 ∙ (ap (λ l. g.0 ++ l) (sym rest_events) ∙ sym (append_assoc g.0 (events_of_operation (begun_in s) now o) (events_after (begun_in s) (with_given (begun_in s) now (at + i) o) (at + suc i) (drop (suc i) os)))))
             ∙ stop_stays s.entries.now [] (g.0 ++ events_of_operation (begun_in s) now o) (events_after (begun_in s) (with_given (begun_in s) now (at + i) o) (at + suc i) (drop (suc i) os)) outcome (f g.0 g.1.0))
-        by es stop.NoMemory result e g f = subst (λ (r : Result B Stop). Spends {A = B} s.entries.now (es ++ events_after (begun_in s) (sight slots first ranks) at os) s.step r after) (sym e) tt
+        by es stop.NoMemory result e g f = subst (λ (r : Result B StepStop). Spends {A = B} s.entries.now (es ++ events_after (begun_in s) (sight slots first ranks) at os) s.step r after) (sym e) tt
 
   module _ (i : ℕ) (given : List ℕ) (banks : List Bank) (over : length os ≤ i) (h : Operates s slots ranks at os first banks_first i given banks) where
     nothing_left : drop i os ≡ []
     nothing_left = none_left os i over
       where
-        none_left : (xs : List Operation) (k : ℕ) → length xs ≤ k → drop k xs ≡ []
+        none_left : (xs : List CodeOperation) (k : ℕ) → length xs ≤ k → drop k xs ≡ []
         none_left [] zero e = refl
         none_left [] (suc k) e = refl
         none_left (x ∷ xs) zero e = absurd (never (length xs) e)

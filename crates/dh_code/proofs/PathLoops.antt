@@ -6,10 +6,10 @@ use Rattle.dh_tree.specs.declared.tables.MemEntry.{MemEntry}
 use Rattle.dh_meaning.specs.Paths.{Path}
 use Rattle.dh_meaning.specs.Core.{CoreCommand, store, assign, choose, keep, CoreCommands, no_commands, command_and}
 use Rattle.dh_meaning.specs.Effects.{Begun, Effect, Event, assigned_at, at_each, command_run, commands_run, holds_at, kept_at, paths_where, stop_after, stored_at, tested_at}
-use Rattle.dh_code.specs.declared.evaluating.Scene.{Scene}
-use Rattle.dh_code.specs.declared.evaluating.Stop.{Stop}
-use Rattle.dh_code.specs.declared.evaluating.Stop.TheVariants as stop
-use Rattle.dh_code.specs.declared.running.State.{State}
+use Rattle.dh_code.specs.declared.evaluating.StepContext.{StepContext}
+use Rattle.dh_code.specs.declared.evaluating.StepStop.{StepStop}
+use Rattle.dh_code.specs.declared.evaluating.StepStop.TheVariants as stop
+use Rattle.dh_code.specs.declared.running.StepState.{StepState}
 use Rattle.dh_code.specs.Plain.{all_plain, plain}
 use Rattle.dh_code.specs.Ranks.{ArePaths, ranks_of}
 use Rattle.dh_code.specs.Slots.{Placing}
@@ -48,10 +48,10 @@ module _ (b : Begun) where
     commands_grow paths (command_and c cs) e = grows_then e (command_run b paths c e) _ (command_grows paths c e) (commands_grow paths cs (command_run b paths c e))
 
 -- a stop is that of all that follows
-pub ends_later : (A B : Type 0) (p : Placing) (table : List MemEntry) (now : ℕ) (e later : Effect) (s s' : State) (x : Stop) (result : Result B Stop) → Grows e later → result ≡ Err x → Ends {A = A} p table e now (Err x) s → Ends {A = B} p table later now result s'
-ends_later A B p table now e later s s' x result g is h = subst (λ (r : Result B Stop). Ends p table later now r s') (sym is) (by x h)
+pub ends_later : (A B : Type 0) (p : Placing) (table : List MemEntry) (now : ℕ) (e later : Effect) (s s' : StepState) (x : StepStop) (result : Result B StepStop) → Grows e later → result ≡ Err x → Ends {A = A} p table e now (Err x) s → Ends {A = B} p table later now result s'
+ends_later A B p table now e later s s' x result g is h = subst (λ (r : Result B StepStop). Ends p table later now r s') (sym is) (by x h)
   where
-    by : (x : Stop) → Ends {A = A} p table e now (Err x) s → Ends {A = B} p table later now (Err x) s'
+    by : (x : StepStop) → Ends {A = A} p table e now (Err x) s → Ends {A = B} p table later now (Err x) s'
     by (stop.At o) h = ap (λ l. stop_after table [] (all_plain l)) g.is ∙ (ap (λ l. stop_after table [] l) (map-append plain e.events g.more) ∙ stop_stays table [] (all_plain e.events) (all_plain g.more) o h)
     by stop.NoMemory h = tt
 
@@ -93,15 +93,15 @@ no_more_rows factors rows (n ∷ numbers) (path ∷ paths) (suc k) e over = no_m
     less m l e = omega (arith, e)
 
 -- the paths up to the one of a number are done
-pub record Going (p : Placing) (s : Scene) (run : Path → Effect → Effect) (paths : List Path) (first : Effect) (k : ℕ) (now : State) : Type 0 where
+pub record Going (p : Placing) (s : StepContext) (run : Path → Effect → Effect) (paths : List Path) (first : Effect) (k : ℕ) (now : StepState) : Type 0 where
   pub effect : Effect
   pub keeps : Keeps p s.entries.now effect s.step now
   pub rest : at_each run (drop k paths) effect ≡ at_each run paths first
 
-abbrev pub go_first : (p : Placing) (s : Scene) (run : Path → Effect → Effect) (paths : List Path) (e : Effect) (now : State) → Keeps p s.entries.now e s.step now → Going p s run paths e 0 now
+abbrev pub go_first : (p : Placing) (s : StepContext) (run : Path → Effect → Effect) (paths : List Path) (e : Effect) (now : StepState) → Keeps p s.entries.now e s.step now → Going p s run paths e 0 now
 go_first p s run paths e now h = record { effect = e; keeps = h; rest = refl }
 
-module _ (p : Placing) (s : Scene) (run : Path → Effect → Effect) (grow : (path : Path) (e : Effect) → Grows e (run path e)) (factors : List ℕ) (rows : List (List ℕ)) (numbers : List ℕ) (paths : List Path) (are : AreRows factors rows numbers paths) (first : Effect) (k : ℕ) (now : State) (g : Going p s run paths first k now) where
+module _ (p : Placing) (s : StepContext) (run : Path → Effect → Effect) (grow : (path : Path) (e : Effect) → Grows e (run path e)) (factors : List ℕ) (rows : List (List ℕ)) (numbers : List ℕ) (paths : List Path) (are : AreRows factors rows numbers paths) (first : Effect) (k : ℕ) (now : StepState) (g : Going p s run paths first k now) where
   module _ (d : ℕ) (within : k < length numbers) where
     abbrev pub path_now : Path
     path_now = get_or paths k []
@@ -112,10 +112,10 @@ module _ (p : Placing) (s : Scene) (run : Path → Effect → Effect) (grow : (p
     pub rest_is : at_each run (drop (suc k) paths) (run path_now g.effect) ≡ at_each run paths first
     rest_is = ap (λ l. at_each run l g.effect) (sym (row_at factors rows numbers paths k d are.are are.inside within).1) ∙ g.rest
 
-    abbrev pub go_turn : (A : Type 0) (a : A) (new : State) → Runs {A = A} p s now (Ok a) new (run path_now) → Going p s run paths first (suc k) new
+    abbrev pub go_turn : (A : Type 0) (a : A) (new : StepState) → Runs {A = A} p s now (Ok a) new (run path_now) → Going p s run paths first (suc k) new
     go_turn A a new ran = record { effect = run path_now g.effect; keeps = ran g.effect g.keeps; rest = rest_is }
 
-    pub go_stop : (A B : Type 0) (x : Stop) (new new' : State) (result : Result B Stop) → result ≡ Err x → Runs {A = A} p s now (Err x) new (run path_now) → Ends {A = B} p s.entries.now (at_each run paths first) s.step result new'
+    pub go_stop : (A B : Type 0) (x : StepStop) (new new' : StepState) (result : Result B StepStop) → result ≡ Err x → Runs {A = A} p s now (Err x) new (run path_now) → Ends {A = B} p s.entries.now (at_each run paths first) s.step result new'
     go_stop A B x new new' result is ran =
         subst (λ (e : Effect). Ends p s.entries.now e s.step result new') rest_is
         (ends_later A B p s.entries.now s.step (run path_now g.effect) (at_each run (drop (suc k) paths) (run path_now g.effect)) new new' x result (each_grows run grow (drop (suc k) paths) (run path_now g.effect)) is (ran g.effect g.keeps))

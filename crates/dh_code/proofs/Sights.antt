@@ -9,7 +9,7 @@ use Rattle.dh_value.specs.Words.{IsWord, with_bits}
 use Rattle.dh_meaning.specs.Effects.{Begun}
 use Rattle.dh_code.specs.declared.codes.Operand.{Operand}
 use Rattle.dh_code.specs.declared.codes.Operand.TheVariants.{Constant, Variable, Given}
-use Rattle.dh_code.specs.declared.codes.Operation.{Operation}
+use Rattle.dh_code.specs.declared.codes.CodeOperation.{CodeOperation}
 use Rattle.dh_code.specs.Operated.{Sight, events_after, lowest_word, operand_word, events_of_operation, word_of_operation, sight_after, with_given}
 use Rattle.dh_code.specs.Made.{one_more}
 
@@ -20,13 +20,13 @@ no_number : (at : ℕ) → at ≡ at + 0
 no_number at = omega arith
 
 module _ (b : Begun) where
-  pub sight_append : (w : Sight) (at : ℕ) (xs ys : List Operation) → sight_after b w at (xs ++ ys) ≡ sight_after b (sight_after b w at xs) (at + length xs) ys
+  pub sight_append : (w : Sight) (at : ℕ) (xs ys : List CodeOperation) → sight_after b w at (xs ++ ys) ≡ sight_after b (sight_after b w at xs) (at + length xs) ys
   sight_append w at [] ys = ap (λ n. sight_after b w n ys) (no_number at)
   sight_append w at (x ∷ xs) ys =
       sight_append (with_given b w at x) (at + 1) xs ys
       ∙ ap (λ n. sight_after b (sight_after b (with_given b w at x) (at + 1) xs) n ys) (next_number at (length xs))
 
-  pub events_append : (w : Sight) (at : ℕ) (xs ys : List Operation) → events_after b w at (xs ++ ys) ≡ events_after b w at xs ++ events_after b (sight_after b w at xs) (at + length xs) ys
+  pub events_append : (w : Sight) (at : ℕ) (xs ys : List CodeOperation) → events_after b w at (xs ++ ys) ≡ events_after b w at xs ++ events_after b (sight_after b w at xs) (at + length xs) ys
   events_append w at [] ys = ap (λ n. events_after b w n ys) (no_number at)
   events_append w at (x ∷ xs) ys =
       ap (λ l. events_of_operation b w x ++ l)
@@ -34,20 +34,20 @@ module _ (b : Begun) where
       ∙ ap (λ n. events_after b (with_given b w at x) (at + 1) xs ++ events_after b (sight_after b (with_given b w at x) (at + 1) xs) n ys) (next_number at (length xs)))
       ∙ sym (append_assoc (events_of_operation b w x) (events_after b (with_given b w at x) (at + 1) xs) (events_after b (sight_after b (with_given b w at x) (at + 1) xs) (at + suc (length xs)) ys))
 
-  pub slots_stay : (w : Sight) (at : ℕ) (xs : List Operation) → (sight_after b w at xs).slots ≡ w.slots
+  pub slots_stay : (w : Sight) (at : ℕ) (xs : List CodeOperation) → (sight_after b w at xs).slots ≡ w.slots
   slots_stay w at [] = refl
   slots_stay w at (x ∷ xs) = slots_stay (with_given b w at x) (at + 1) xs
 
-  pub ranks_stay : (w : Sight) (at : ℕ) (xs : List Operation) → (sight_after b w at xs).ranks ≡ w.ranks
+  pub ranks_stay : (w : Sight) (at : ℕ) (xs : List CodeOperation) → (sight_after b w at xs).ranks ≡ w.ranks
   ranks_stay w at [] = refl
   ranks_stay w at (x ∷ xs) = ranks_stay (with_given b w at x) (at + 1) xs
 
-  pub room_stays : (w : Sight) (at : ℕ) (xs : List Operation) → length (sight_after b w at xs).given ≡ length w.given
+  pub room_stays : (w : Sight) (at : ℕ) (xs : List CodeOperation) → length (sight_after b w at xs).given ≡ length w.given
   room_stays w at [] = refl
   room_stays w at (x ∷ xs) = room_stays (with_given b w at x) (at + 1) xs ∙ length-set w.given at (word_of_operation b w x).bits
 
   -- what was given before stays
-  pub given_stays : (w : Sight) (at : ℕ) (xs : List Operation) (i : ℕ) → i < at → slice_index (sight_after b w at xs).given i ≡ slice_index w.given i
+  pub given_stays : (w : Sight) (at : ℕ) (xs : List CodeOperation) (i : ℕ) → i < at → slice_index (sight_after b w at xs).given i ≡ slice_index w.given i
   given_stays w at [] i early = refl
   given_stays w at (x ∷ xs) i early =
       given_stays (with_given b w at x) (at + 1) xs i (omega (arith, early))
@@ -67,7 +67,7 @@ module _ (b : Begun) where
   before_more m n (Variable first depth kind mask) le h = tt
   before_more m n (Given kind at mask) le h = omega (arith, le, h)
 
-  pub operand_stays : (w : Sight) (at : ℕ) (xs : List Operation) (o : Operand) → IsBefore at o → operand_word (sight_after b w at xs) o ≡ operand_word w o
+  pub operand_stays : (w : Sight) (at : ℕ) (xs : List CodeOperation) (o : Operand) → IsBefore at o → operand_word (sight_after b w at xs) o ≡ operand_word w o
   operand_stays w at xs (Constant word) h = refl
   operand_stays w at xs (Variable first depth kind mask) h =
       ap (λ l. lowest_word kind (slice_index l (first + slice_index (sight_after b w at xs).ranks depth))) (slots_stay w at xs)
@@ -79,7 +79,7 @@ module _ (b : Begun) where
   AreBefore n (o ∷ os) = IsBefore n o × AreBefore n os
 
   -- one operation more, whose word has this kind
-  module _ (w : Sight) (at : ℕ) (xs : List Operation) (o : Operation) (k : Kind) where
+  module _ (w : Sight) (at : ℕ) (xs : List CodeOperation) (o : CodeOperation) (k : Kind) where
     abbrev there : Sight
     there = sight_after b w at xs
 

@@ -8,7 +8,7 @@ use Rattle.dh_value.specs.Words.{residue}
 use Rattle.dh_meaning.specs.Paths.{Path, same_path}
 use Rattle.dh_meaning.specs.Effects.{Variables, set_variable}
 use Rattle.dh_code.specs.Ranks.{IsPath, copies_in, rank_of}
-use Rattle.dh_code.specs.declared.places.Held.{Held}
+use Rattle.dh_code.specs.declared.places.VariableSlots.{VariableSlots}
 use Rattle.dh_code.specs.Slots.{EndsBefore, Holds, IsPlacing, Placing, held_at, held_nowhere, slot_of}
 use Rattle.dh_code.proofs.Ranked.{rank_below, ranks_differ}
 
@@ -104,7 +104,7 @@ held_more p slots v e path z slot bits h within inside at are = record {
         clash u v = cc
 
 -- past the end nothing is held
-pub held_past : (held : List Held) (n : ℕ) → length held ≤ n → held_at held n ≡ held_nowhere
+pub held_past : (held : List VariableSlots) (n : ℕ) → length held ≤ n → held_at held n ≡ held_nowhere
 held_past [] zero h = refl
 held_past [] (suc n) h = refl
 held_past (x ∷ held) zero h = absurd (never (length held) h)
@@ -117,14 +117,14 @@ held_past (x ∷ held) (suc n) h = held_past held n (less (length held) n h)
     less m l e = omega (arith, e)
 
 -- those behind others
-pub held_dropped : (held : List Held) (e n : ℕ) → held_at (drop e held) n ≡ held_at held (e + n)
+pub held_dropped : (held : List VariableSlots) (e n : ℕ) → held_at (drop e held) n ≡ held_at held (e + n)
 held_dropped held zero n = ap (λ k. held_at held k) (none n)
   where
     none : (n : ℕ) → n ≡ 0 + n
     none n = omega arith
 held_dropped [] (suc e) n = held_past [] n (least n) ∙ sym (held_past [] (suc e + n) (least (suc e + n)))
   where
-    least : (n : ℕ) → length {A = Held} [] ≤ n
+    least : (n : ℕ) → length {A = VariableSlots} [] ≤ n
     least n = omega arith
 held_dropped (x ∷ held) (suc e) n = held_dropped held e n ∙ ap (λ k. held_at (x ∷ held) k) (moved e n)
   where

@@ -7,10 +7,10 @@ use Rattle.dh_value.specs.Words.{residue}
 use Rattle.dh_meaning.specs.Paths.{Path}
 use Rattle.dh_meaning.specs.Core.{CoreTerm}
 use Rattle.dh_meaning.specs.Effects.{Effect, Event, Variables, assigned_at, holds_at, set_variable, term_events, tested_at, value_of_term}
-use Rattle.dh_code.specs.declared.codes.Flat.{Flat}
-use Rattle.dh_code.specs.declared.evaluating.Scene.{Scene}
-use Rattle.dh_code.specs.declared.evaluating.Stop.{Stop}
-use Rattle.dh_code.specs.declared.running.State.{State}
+use Rattle.dh_code.specs.declared.codes.FlatExpression.{FlatExpression}
+use Rattle.dh_code.specs.declared.evaluating.StepContext.{StepContext}
+use Rattle.dh_code.specs.declared.evaluating.StepStop.{StepStop}
+use Rattle.dh_code.specs.declared.running.StepState.{StepState}
 use Rattle.dh_code.specs.declared.spending.Bank.{Bank}
 use Rattle.dh_code.specs.Coded.{AreSlotsOf, IsFlat}
 use Rattle.dh_code.specs.Operated.{Sight, operand_word}
@@ -24,7 +24,7 @@ use Rattle.dh_code.proofs.FlatMeaning.{assigned_slot, flat_happens, flat_value, 
 use Rattle.dh_code.proofs.Ranges.{items_same}
 use Rattle.dh_code.proofs.SlotsHeld.{held_more}
 
-module _ (s : Scene) (scene : IsScene s) (p : Placing) (factors ranks : List ℕ) (path : Path) (t : CoreTerm) (f : Flat) (e : Effect) (old middle : State)
+module _ (s : StepContext) (scene : IsScene s) (p : Placing) (factors ranks : List ℕ) (path : Path) (t : CoreTerm) (f : FlatExpression) (e : Effect) (old middle : StepState)
     (at : AreRanks factors ranks path) (is : IsFlat p.held s.entries.now s.code.now t f) (can : CanEvaluate s.entries.now p factors t) (k : Keeps p s.entries.now e s.step old) (ready : IsReadyState s old) where
   abbrev value : Word
   value = value_of_term (begun_in s) e.variables path t
@@ -45,7 +45,7 @@ module _ (s : Scene) (scene : IsScene s) (p : Placing) (factors ranks : List ℕ
   pub spent_of : (w : Word) → SpendsFlat {A = Word} s old (Ok w) middle ranks f → HaveSpent s.entries.now (all_plain e.events ++ all_plain happens) s.step middle.banks.items
   spent_of w spends = subst (λ (l : List Event). HaveSpent s.entries.now (all_plain e.events ++ l) s.step middle.banks.items) events_of (spends (all_plain e.events) k.spent)
 
-  pub stopped_of : (A B : Type 0) (x : Stop) (result : Result B Stop) (v : Variables) (new : State) → result ≡ Err x → SpendsFlat {A = A} s old (Err x) middle ranks f
+  pub stopped_of : (A B : Type 0) (x : StepStop) (result : Result B StepStop) (v : Variables) (new : StepState) → result ≡ Err x → SpendsFlat {A = A} s old (Err x) middle ranks f
       → Ends {A = B} p s.entries.now (record { variables = v; events = e.events ++ happens }) s.step result new
   stopped_of A B x result v new stopped spends =
       stopped_events A B p s.entries.now e s.step middle.banks.items new v happens x result stopped
@@ -60,7 +60,7 @@ module _ (s : Scene) (scene : IsScene s) (p : Placing) (factors ranks : List ℕ
   pub holds_as : (w : Word) → w ≡ flat_word s (sight_in old ranks) f → holds_at (begun_in s) e.variables t path ≡ (w.bits == 1)
   holds_as w same = ap (λ (x : Word). x.bits == 1) (sym (worth_of w same))
 
-  pub assigned_keeps : (deep entity first depth slot bits : ℕ) (w : Word) (new : State) → AreSlotsOf p.held entity first depth → IsInside p factors deep entity → KeepsVariables old middle
+  pub assigned_keeps : (deep entity first depth slot bits : ℕ) (w : Word) (new : StepState) → AreSlotsOf p.held entity first depth → IsInside p factors deep entity → KeepsVariables old middle
       → w ≡ flat_word s (sight_in old ranks) f → SpendsFlat {A = Word} s old (Ok w) middle ranks f → slot ≡ first + slice_index ranks depth → bits ≡ residue (2 ^ 64) (words.value_of w)
       → new.banks ≡ middle.banks → new.writes ≡ middle.writes → IsAssigned middle new slot bits → Keeps p s.entries.now (assigned_at (begun_in s) deep entity t path e) s.step new
   assigned_keeps deep entity first depth slot bits w new slots inside kept same spends there whole banks written set =

@@ -10,12 +10,12 @@ use Rattle.dh_meaning.specs.Core.{Reach, CoreTerm}
 use Rattle.dh_meaning.specs.Core as core
 use Rattle.dh_meaning.specs.Effects.{Effect, Event, Variables, faults, kept_bits, spot_reached, stop_after, stored_at, target_events, term_events, value_of_term, write_made, writes}
 use Rattle.dh_code.specs.declared.codes.Access.{Access}
-use Rattle.dh_code.specs.declared.codes.Flat.{Flat}
-use Rattle.dh_code.specs.declared.codes.Operation.{Operation}
-use Rattle.dh_code.specs.declared.evaluating.Scene.{Scene}
-use Rattle.dh_code.specs.declared.evaluating.Stop.{Stop}
-use Rattle.dh_code.specs.declared.evaluating.Stop.TheVariants as stop
-use Rattle.dh_code.specs.declared.running.State.{State}
+use Rattle.dh_code.specs.declared.codes.FlatExpression.{FlatExpression}
+use Rattle.dh_code.specs.declared.codes.CodeOperation.{CodeOperation}
+use Rattle.dh_code.specs.declared.evaluating.StepContext.{StepContext}
+use Rattle.dh_code.specs.declared.evaluating.StepStop.{StepStop}
+use Rattle.dh_code.specs.declared.evaluating.StepStop.TheVariants as stop
+use Rattle.dh_code.specs.declared.running.StepState.{StepState}
 use Rattle.dh_code.specs.declared.running.Write.{Write}
 use Rattle.dh_code.specs.declared.spots.Element.{Element}
 use Rattle.dh_code.specs.declared.spots.Spread.{Spread}
@@ -37,7 +37,7 @@ use Rattle.dh_code.proofs.Sights.{sight_append}
 use Rattle.dh_code.proofs.TermsGiven.{Gives, Leads, both_events, first_stays, gives, leads, plain_append, room_left, sees_on}
 use Rattle.dh_code.proofs.ValuesOfTerms.{of_memory}
 
-module _ (s : Scene) (scene : IsScene s) (p : Placing) (factors ranks : List ℕ) (path : Path) (reach : Reach) (target : core.Target) (t : CoreTerm) (f : Flat) (a : Access) (e : Effect) (old middle : State)
+module _ (s : StepContext) (scene : IsScene s) (p : Placing) (factors ranks : List ℕ) (path : Path) (reach : Reach) (target : core.Target) (t : CoreTerm) (f : FlatExpression) (a : Access) (e : Effect) (old middle : StepState)
     (at : AreRanks factors ranks path) (is : IsFlatStore p.held s.entries.now s.code.now reach target t f a) (suits : IsSuitedTarget s.entries.now reach.memory target) (inside : TargetInside p factors target)
     (can : CanEvaluate s.entries.now p factors t) (k : Keeps p s.entries.now e s.step old) (ready : IsReadyState s old) where
   abbrev w : Sight
@@ -56,7 +56,7 @@ module _ (s : Scene) (scene : IsScene s) (p : Placing) (factors ranks : List ℕ
   two = target_made p.held s.entries.now behind target
 
   room : f.from + (length one.operations + length two.operations) ≤ length w.given
-  room = by (length one.operations) (length two.operations) (sym (length-append one.operations two.operations) ∙ (sym (ap (λ (l : List Operation). length l) is.operations) ∙ length_range s.code.now.operations f.from f.to is.there))
+  room = by (length one.operations) (length two.operations) (sym (length-append one.operations two.operations) ∙ (sym (ap (λ (l : List CodeOperation). length l) is.operations) ∙ length_range s.code.now.operations f.from f.to is.there))
     where
       by : (n m : ℕ) → n + m ≡ f.to - f.from → f.from + (n + m) ≤ length w.given
       by n m e = let x = is.within in let y = is.there in let z = ready.room in omega (arith, e, x, y, z)
@@ -89,17 +89,17 @@ module _ (s : Scene) (scene : IsScene s) (p : Placing) (factors ranks : List ℕ
   worth word same =
       same
       ∙ (ap (λ o. operand_word (flat_sight s w f) o) is.value
-      ∙ (ap (λ (l : List Operation). operand_word (sight_after (begun_in s) w f.from l) one.value) is.operations
+      ∙ (ap (λ (l : List CodeOperation). operand_word (sight_after (begun_in s) w f.from l) one.value) is.operations
       ∙ first_stays p (begun_in s) v factors path at.inside scene.entries scene.small w f.from one.operations two.operations one.value value valued.before valued.value))
 
   events_are : flat_events s w f ≡ all_plain happens
   events_are =
-      ap (λ (l : List Operation). events_after (begun_in s) w f.from l) is.operations
+      ap (λ (l : List CodeOperation). events_after (begun_in s) w f.from l) is.operations
       ∙ both_events p (begun_in s) v factors path at.inside scene.entries scene.small w f.from one.operations two.operations (term_events (begun_in s) v path t) (target_events (begun_in s) v path target) valued.events led.events
 
   spot_is : sight_in middle ranks ≡ flat_sight s w f → access_spot (begun_in s) (sight_in middle ranks) a ≡ spot_reached (begun_in s) v path reach target
   spot_is seen =
-      ap (λ (x : Sight). access_spot (begun_in s) x a) (seen ∙ (ap (λ (l : List Operation). sight_after (begun_in s) w f.from l) is.operations ∙ sight_append (begun_in s) w f.from one.operations two.operations))
+      ap (λ (x : Sight). access_spot (begun_in s) x a) (seen ∙ (ap (λ (l : List CodeOperation). sight_after (begun_in s) w f.from l) is.operations ∙ sight_append (begun_in s) w f.from one.operations two.operations))
       ∙ (ap (λ (x : Access). access_spot (begun_in s) (sight_after (begun_in s) (sight_after (begun_in s) w f.from one.operations) behind two.operations) x) is.access ∙ led.spot)
 
   grouped : (x : Event) → e.events ++ (term_events (begun_in s) v path t ++ (target_events (begun_in s) v path target ++ x ∷ [])) ≡ (e.events ++ happens) ++ x ∷ []
@@ -107,7 +107,7 @@ module _ (s : Scene) (scene : IsScene s) (p : Placing) (factors ranks : List ℕ
       ap (λ l. e.events ++ l) (sym (append_assoc (term_events (begun_in s) v path t) (target_events (begun_in s) v path target) (x ∷ [])))
       ∙ sym (append_assoc e.events happens (x ∷ []))
 
-  pub store_stops : (A : Type 0) (x : Stop) (result : Result (Unit {0}) Stop) (new : State) → result ≡ Err x → SpendsFlat {A = A} s old (Err x) middle ranks f → Ends p s.entries.now (stored_at (begun_in s) reach target t path e) s.step result new
+  pub store_stops : (A : Type 0) (x : StepStop) (result : Result (Unit {0}) StepStop) (new : StepState) → result ≡ Err x → SpendsFlat {A = A} s old (Err x) middle ranks f → Ends p s.entries.now (stored_at (begun_in s) reach target t path e) s.step result new
   store_stops A x result new stopped spends =
       ends_later A (Unit {0}) p s.entries.now s.step (record { variables = v; events = e.events ++ happens }) (stored_at (begun_in s) reach target t path e) new new x result
       (record { more = last ∷ []; is = grouped last }) stopped
@@ -127,8 +127,8 @@ module _ (s : Scene) (scene : IsScene s) (p : Placing) (factors ranks : List ℕ
     whole_plain : (x : Event) → all_plain (e.events ++ (term_events (begun_in s) v path t ++ (target_events (begun_in s) v path target ++ x ∷ []))) ≡ all_plain (e.events ++ happens) ++ plain x ∷ []
     whole_plain x = ap all_plain (grouped x) ∙ plain_append (e.events ++ happens) (x ∷ [])
 
-    pub store_faults : (A : Type 0) (x : Stop) (new : State) → x ≡ stop.At (Faulted OutOfRange a.place) → access_spot (begun_in s) (sight_in middle ranks) a ≡ None → Ends {A = A} p s.entries.now (stored_at (begun_in s) reach target t path e) s.step (Err x) new
-    store_faults A x new stopped none = subst (λ (y : Stop). Ends {A = A} p s.entries.now (stored_at (begun_in s) reach target t path e) s.step (Err y) new) (sym stopped)
+    pub store_faults : (A : Type 0) (x : StepStop) (new : StepState) → x ≡ stop.At (Faulted OutOfRange a.place) → access_spot (begun_in s) (sight_in middle ranks) a ≡ None → Ends {A = A} p s.entries.now (stored_at (begun_in s) reach target t path e) s.step (Err x) new
+    store_faults A x new stopped none = subst (λ (y : StepStop). Ends {A = A} p s.entries.now (stored_at (begun_in s) reach target t path e) s.step (Err y) new) (sym stopped)
         (ap (λ k. stop_after s.entries.now [] (all_plain (e.events ++ (term_events (begun_in s) v path t ++ (target_events (begun_in s) v path target ++ write_made reach path (kept_bits s.entries.now reach.memory value) k ∷ []))))) (sym (spot_is seen) ∙ none)
         ∙ (ap (λ l. stop_after s.entries.now [] l) (whole_plain (faults reach.number reach.place path OutOfRange))
         ∙ (stop_more s.entries.now [] (all_plain (e.events ++ happens)) (faults 0 reach.place [] OutOfRange ∷ []) spent.clear
@@ -168,7 +168,7 @@ module _ (s : Scene) (scene : IsScene s) (p : Placing) (factors ranks : List ℕ
           none : writes_in happens ≡ []
           none = written_both (term_events (begun_in s) v path t) (target_events (begun_in s) v path target) (none_written (begun_in s) v path t) (none_aimed (begun_in s) v path target)
 
-      pub store_ends : (result : Result (Unit {0}) Stop) (new : State) → KeepsSlots middle new → Puts s middle result new a.place el word → Ends p s.entries.now (stored_at (begun_in s) reach target t path e) s.step result new
+      pub store_ends : (result : Result (Unit {0}) StepStop) (new : StepState) → KeepsSlots middle new → Puts s middle result new a.place el word → Ends p s.entries.now (stored_at (begun_in s) reach target t path e) s.step result new
       store_ends (Ok u) new slots puts =
           let h = puts (all_plain (e.events ++ happens)) spent in
           record {

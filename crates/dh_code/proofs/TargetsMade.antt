@@ -10,9 +10,9 @@ use Rattle.dh_ways.specs.declared.ways.Hidden as ways
 use Rattle.dh_ways.specs.Kept as ways_kept
 use Rattle.dh_ways.specs.Seen.{hidden_seen, way_seen}
 use Rattle.dh_code.specs.declared.codes.Operand.{Operand}
-use Rattle.dh_code.specs.declared.codes.Operation.{Operation}
+use Rattle.dh_code.specs.declared.codes.CodeOperation.{CodeOperation}
 use Rattle.dh_code.specs.declared.codes.Target.TheVariants.{Through}
-use Rattle.dh_code.specs.declared.places.Held.{Held}
+use Rattle.dh_code.specs.declared.places.VariableSlots.{VariableSlots}
 use Rattle.dh_code.specs.Made.{AllMade, aimed, aimed_target, all_made, hidden_operand, target_made, term_made, terms_made}
 use Rattle.dh_code.specs.Passing.{step_views}
 use Rattle.dh_code.specs.Suited.{AreSuited, IsSuitedTarget}
@@ -26,10 +26,10 @@ pub first_suited : (table : List MemEntry) (memory : ℕ) (w : Option Way) (ts :
 first_suited table memory None ts h = h.1
 first_suited table memory (Some w) ts h = both_suited table ts (kept_terms w.hidden) h.1.1
 
-module _ (held : List Held) (table : List MemEntry) where
+module _ (held : List VariableSlots) (table : List MemEntry) where
   kept_made : (at : ℕ) (hs : List Hidden) → terms_made held table at (kept_terms hs) ≡ all_made [] (map (hidden_operand held) hs)
   kept_made at [] = refl
-  kept_made at (h ∷ hs) = ap (λ (m : AllMade). all_made m.operations (hidden_operand held h ∷ m.values)) (kept_made (at + length {A = Operation} []) hs)
+  kept_made at (h ∷ hs) = ap (λ (m : AllMade). all_made m.operations (hidden_operand held h ∷ m.values)) (kept_made (at + length {A = CodeOperation} []) hs)
 
   both_made : (at : ℕ) (ts : CoreTerms) (hs : List Hidden)
       → terms_made held table at (terms_both ts (kept_terms hs)) ≡ all_made (terms_made held table at ts).operations ((terms_made held table at ts).values ++ map (hidden_operand held) hs)
@@ -50,11 +50,11 @@ views_back : (vs : List ViewMap) → step_views (map step_of vs) ≡ vs
 views_back [] = refl
 views_back (v ∷ vs) = ap (λ l. v ∷ l) (views_back vs)
 
-offsets_seen : (held : List Held) (hs : List ways.Hidden) → map (λ h. hidden_operand held (hidden_seen h)) hs ≡ map (hidden_operand held) (map hidden_seen hs)
+offsets_seen : (held : List VariableSlots) (hs : List ways.Hidden) → map (λ h. hidden_operand held (hidden_seen h)) hs ≡ map (hidden_operand held) (map hidden_seen hs)
 offsets_seen held [] = refl
 offsets_seen held (h ∷ hs) = ap (λ l. hidden_operand held (hidden_seen h) ∷ l) (offsets_seen held hs)
 
-pub through_made : (held : List Held) (w : ways_kept.KeptWay) (os all : List Operand) (vs : List ViewMap) (n : ℕ) → n ≡ length os → all ≡ os ++ map (λ h. hidden_operand held (hidden_seen h)) w.hidden → vs ≡ w.view ∷ w.behind
+pub through_made : (held : List VariableSlots) (w : ways_kept.KeptWay) (os all : List Operand) (vs : List ViewMap) (n : ℕ) → n ≡ length os → all ≡ os ++ map (λ h. hidden_operand held (hidden_seen h)) w.hidden → vs ≡ w.view ∷ w.behind
     → Through vs n all ≡ aimed_target held (Some (way_seen w)) os
 through_made held w os all vs n long both views =
     ap (λ k. Through vs k all) long

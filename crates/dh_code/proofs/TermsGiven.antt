@@ -23,9 +23,9 @@ use Rattle.dh_meaning.specs.Core as core
 use Rattle.dh_meaning.specs.Effects.{Begun, Event, Variables, bits_at, kind_in, read_made, spot_by_indices, spot_by_row, spot_by_views, spot_reached, target_events, term_events, terms_events, value_of_term, values_of}
 use Rattle.dh_code.specs.declared.codes.Operand.{Operand}
 use Rattle.dh_code.specs.declared.codes.Operand.TheVariants.{Variable}
-use Rattle.dh_code.specs.declared.codes.Operation.{Operation}
-use Rattle.dh_code.specs.declared.codes.Operation.TheVariants.{Binary, Convert, Read}
-use Rattle.dh_code.specs.declared.places.Held.{Held}
+use Rattle.dh_code.specs.declared.codes.CodeOperation.{CodeOperation}
+use Rattle.dh_code.specs.declared.codes.CodeOperation.TheVariants.{Binary, Convert, Read}
+use Rattle.dh_code.specs.declared.places.VariableSlots.{VariableSlots}
 use Rattle.dh_code.specs.Made.{MadeExpression, access_to, one_more, target_made, term_made, terms_made}
 use Rattle.dh_tree.specs.Kinds.{same_kind}
 use Rattle.dh_code.specs.Operated.{Sight, access_spot, events_after, index_values, kind_of_operand, lowest_word, mask_of, operand_word, events_of_operation, word_of_operation, sight_after, target_spot}
@@ -51,7 +51,7 @@ same_kind_is (kind.Signed m) kind.Bool e = absurd cc
 same_kind_is (kind.Signed m) (kind.Unsigned n) e = absurd cc
 
 -- the kind of the operand that is an expression's value
-pub made_kind : (held : List Held) (table : List MemEntry) (at : ℕ) (t : CoreTerm) → kind_of_operand (term_made held table at t).value ≡ term_kind table t
+pub made_kind : (held : List VariableSlots) (table : List MemEntry) (at : ℕ) (t : CoreTerm) → kind_of_operand (term_made held table at t).value ≡ term_kind table t
 made_kind held table at (literal kind negative n) = refl
 made_kind held table at (truth_literal value) = refl
 made_kind held table at (variable kind depth entity) = refl
@@ -81,7 +81,7 @@ module _ (p : Placing) (b : Begun) (v : Variables) (factors : List ℕ) (path : 
     pub slots : Holds p w.slots v
     pub ranks : w.ranks ≡ ranks_of factors path
 
-  pub sees_on : (w : Sight) (at : ℕ) (os : List Operation) → Sees w → Sees (sight_after b w at os)
+  pub sees_on : (w : Sight) (at : ℕ) (os : List CodeOperation) → Sees w → Sees (sight_after b w at os)
   sees_on w at os s = record {
     slots = subst (λ (l : List ℕ). Holds p l v) (sym (slots_stay b w at os)) s.slots;
     ranks = ranks_stay b w at os ∙ s.ranks;
@@ -112,7 +112,7 @@ module _ (p : Placing) (b : Begun) (v : Variables) (factors : List ℕ) (path : 
       ∙ (ap (λ n. lowest_word k n) (s.slots.each entity (take depth path) i.known (subst (λ (l : List ℕ). IsPath l (take depth path)) (sym i.round) (path_begins factors path depth inside)))
       ∙ ap (λ n. with_bits k n) (residue_cut (v entity (take depth path)) (width_of k) sized.1))))
 
-  pub room_left : (w : Sight) (at n m : ℕ) (os : List Operation) → length os ≡ n → at + (n + m) ≤ length w.given → (at + n) + m ≤ length (sight_after b w at os).given
+  pub room_left : (w : Sight) (at n m : ℕ) (os : List CodeOperation) → length os ≡ n → at + (n + m) ≤ length w.given → (at + n) + m ≤ length (sight_after b w at os).given
   room_left w at n m os is room = subst (λ (k : ℕ). (at + n) + m ≤ k) (sym (room_stays b w at os)) (moved at n m (length w.given) room)
     where
       moved : (a x y k : ℕ) → a + (x + y) ≤ k → (a + x) + y ≤ k
@@ -122,7 +122,7 @@ module _ (p : Placing) (b : Begun) (v : Variables) (factors : List ℕ) (path : 
   words_of t h = value_word b v path entries small t h
 
   -- one operation more behind code that is done
-  more_room : (w : Sight) (at n : ℕ) (os : List Operation) (o : Operation) → length (os ++ o ∷ []) ≡ n → at + n ≤ length w.given → at + length os < length w.given
+  more_room : (w : Sight) (at n : ℕ) (os : List CodeOperation) (o : CodeOperation) → length (os ++ o ∷ []) ≡ n → at + n ≤ length w.given → at + length os < length w.given
   more_room w at n os o is room = by (length os) (length (os ++ o ∷ [])) (length-append os (o ∷ [])) is
     where
       by : (m k : ℕ) → k ≡ m + 1 → k ≡ n → at + m < length w.given
@@ -131,20 +131,20 @@ module _ (p : Placing) (b : Begun) (v : Variables) (factors : List ℕ) (path : 
   first_room : (at n m k : ℕ) → at + (n + m) ≤ k → at + n ≤ k
   first_room at n m k e = omega (arith, e)
 
-  both_room : (w : Sight) (at : ℕ) (xs ys : List Operation) → at + length (xs ++ ys) ≤ length w.given → at + (length xs + length ys) ≤ length w.given
+  both_room : (w : Sight) (at : ℕ) (xs ys : List CodeOperation) → at + length (xs ++ ys) ≤ length w.given → at + (length xs + length ys) ≤ length w.given
   both_room w at xs ys room = subst (λ (n : ℕ). at + n ≤ length w.given) (length-append xs ys) room
 
-  less_room : (w : Sight) (at : ℕ) (os : List Operation) (o : Operation) → at + length (os ++ o ∷ []) ≤ length w.given → at + length os ≤ length w.given
+  less_room : (w : Sight) (at : ℕ) (os : List CodeOperation) (o : CodeOperation) → at + length (os ++ o ∷ []) ≤ length w.given → at + length os ≤ length w.given
   less_room w at os o room = by (length os) (length (os ++ o ∷ [])) (length-append os (o ∷ [])) room
     where
       by : (n m : ℕ) → m ≡ n + 1 → at + m ≤ length w.given → at + n ≤ length w.given
       by n m e r = omega (arith, e, r)
 
-  binary_room : (w : Sight) (at : ℕ) (xs ys : List Operation) (o : Operation) → at + length ((xs ++ ys) ++ o ∷ []) ≤ length w.given → at + (length xs + length ys) ≤ length w.given
+  binary_room : (w : Sight) (at : ℕ) (xs ys : List CodeOperation) (o : CodeOperation) → at + length ((xs ++ ys) ++ o ∷ []) ≤ length w.given → at + (length xs + length ys) ≤ length w.given
   binary_room w at xs ys o room = both_room w at xs ys (less_room w at (xs ++ ys) o room)
 
   -- code that stands behind other code
-  module _ (w : Sight) (at : ℕ) (xs ys : List Operation) where
+  module _ (w : Sight) (at : ℕ) (xs ys : List CodeOperation) where
     abbrev first : Sight
     first = sight_after b w at xs
 
@@ -182,10 +182,10 @@ module _ (p : Placing) (b : Begun) (v : Variables) (factors : List ℕ) (path : 
       two : MadeExpression
       two = terms (at + length one.operations) right
 
-      os : List Operation
+      os : List CodeOperation
       os = one.operations ++ two.operations
 
-      it : Operation
+      it : CodeOperation
       it = Binary o one.value two.value
 
       k : Kind
@@ -206,10 +206,10 @@ module _ (p : Placing) (b : Begun) (v : Variables) (factors : List ℕ) (path : 
     before = more_before b w at os it (kind_in b.table r.memory);
   }
     where
-      os : List Operation
+      os : List CodeOperation
       os = (target_made p.held b.table at target).operations
 
-      it : Operation
+      it : CodeOperation
       it = Read (access_to r (target_made p.held b.table at target).target)
 
       same : word_of_operation b (sight_after b w at os) it ≡ value_of_term b v path (read r target)
@@ -231,7 +231,7 @@ module _ (p : Placing) (b : Begun) (v : Variables) (factors : List ℕ) (path : 
       m : MadeExpression
       m = terms at inner
 
-      it : Operation
+      it : CodeOperation
       it = Convert m.value to
 
       worth : Word
@@ -264,7 +264,7 @@ module _ (p : Placing) (b : Begun) (v : Variables) (factors : List ℕ) (path : 
       one : MadeExpression
       one = terms at t
 
-      two : List Operation
+      two : List CodeOperation
       two = (terms_made p.held b.table (at + length one.operations) ts).operations
 
       others : List Operand

@@ -21,9 +21,9 @@ use Rattle.dh_code.specs.declared.codes.Action.TheVariants.{Keep}
 use Rattle.dh_code.specs.declared.codes.Code.{Code}
 use Rattle.dh_code.specs.declared.codes.Kept.{Kept}
 use Rattle.dh_code.specs.declared.codes.Operand.{Operand}
-use Rattle.dh_code.specs.declared.codes.Operation.{Operation}
+use Rattle.dh_code.specs.declared.codes.CodeOperation.{CodeOperation}
 use Rattle.dh_code.specs.declared.flattening.Names.{Names}
-use Rattle.dh_code.specs.declared.places.Held.{Held}
+use Rattle.dh_code.specs.declared.places.VariableSlots.{VariableSlots}
 use Rattle.dh_code.specs.Coded.{AreFlat, AreSlotsFrom, operands_kept}
 use Rattle.dh_code.specs.Flattening.{AddsStep, AreMade, FlattensAll, FlattensOffsets, IsInFront, kept_from, known_by_names, offsets_by, table_in}
 use Rattle.dh_code.specs.Made.{AllMade, terms_made}
@@ -77,13 +77,13 @@ no_offsets names c form os same none n h =
 
 -- Where they are kept.
 
-pub kept_first : (held : List Held) (first : ℕ) (os : List Operand) → [] ++ kept_from held (first + 0) (drop 0 os) ≡ kept_from held first os
+pub kept_first : (held : List VariableSlots) (first : ℕ) (os : List Operand) → [] ++ kept_from held (first + 0) (drop 0 os) ≡ kept_from held first os
 kept_first held first os = ap (λ n. kept_from held n os) (none first)
   where
     none : (n : ℕ) → n + 0 ≡ n
     none n = omega arith
 
-kept_more : (held : List Held) (first i : ℕ) (os : List Operand) (now new : List Kept) (o : Operand) (slot : ℕ) → i < length os → o ≡ get_or os i o → new ≡ now ++ record { value = o; first = slot } ∷ [] → slot ≡ (held_at held (first + i)).first
+kept_more : (held : List VariableSlots) (first i : ℕ) (os : List Operand) (now new : List Kept) (o : Operand) (slot : ℕ) → i < length os → o ≡ get_or os i o → new ≡ now ++ record { value = o; first = slot } ∷ [] → slot ≡ (held_at held (first + i)).first
     → now ++ kept_from held (first + i) (drop i os) ≡ kept_from held first os → new ++ kept_from held (first + suc i) (drop (suc i) os) ≡ kept_from held first os
 kept_more held first i os now new o slot there is added at h =
     ap (λ l. l ++ kept_from held (first + suc i) (drop (suc i) os)) added
@@ -95,22 +95,22 @@ kept_more held first i os now new o slot there is added at h =
     moved : (a b : ℕ) → a + suc b ≡ suc (a + b)
     moved a b = omega arith
 
-pub kept_place : (held : List Held) (first i : ℕ) (os : List Operand) (now new : List Kept) (o : Operand) (at : Held) → i < length os → new ≡ now ++ record { value = get_or os i o; first = at.first } ∷ [] → at ≡ held_at held (first + i)
+pub kept_place : (held : List VariableSlots) (first i : ℕ) (os : List Operand) (now new : List Kept) (o : Operand) (at : VariableSlots) → i < length os → new ≡ now ++ record { value = get_or os i o; first = at.first } ∷ [] → at ≡ held_at held (first + i)
     → now ++ kept_from held (first + i) (drop i os) ≡ kept_from held first os → new ++ kept_from held (first + suc i) (drop (suc i) os) ≡ kept_from held first os
-kept_place held first i os now new o at there added is h = kept_more held first i os now new (get_or os i o) at.first there (get_whatever os i o (get_or os i o) there) added (ap (λ (x : Held). x.first) is) h
+kept_place held first i os now new o at there added is h = kept_more held first i os now new (get_or os i o) at.first there (get_whatever os i o (get_or os i o) there) added (ap (λ (x : VariableSlots). x.first) is) h
 
-pub kept_end : (held : List Held) (first i : ℕ) (os : List Operand) (now : List Kept) → length os ≤ i → now ++ kept_from held (first + i) (drop i os) ≡ kept_from held first os → now ≡ kept_from held first os
+pub kept_end : (held : List VariableSlots) (first i : ℕ) (os : List Operand) (now : List Kept) → length os ≤ i → now ++ kept_from held (first + i) (drop i os) ≡ kept_from held first os → now ≡ kept_from held first os
 kept_end held first i os now over h = sym (append-nil now) ∙ (ap (λ l. now ++ kept_from held (first + i) l) (sym (drop_past os i over)) ∙ h)
 
-kept_operands : (held : List Held) (e : ℕ) (os : List Operand) → operands_kept (kept_from held e os) ≡ os
+kept_operands : (held : List VariableSlots) (e : ℕ) (os : List Operand) → operands_kept (kept_from held e os) ≡ os
 kept_operands held e [] = refl
 kept_operands held e (o ∷ os) = ap (λ l. o ∷ l) (kept_operands held (suc e) os)
 
-kept_held : (held : List Held) (e : ℕ) (os : List Operand) → AllByRecursion IsValidOperand os → AllByRecursion (λ k. IsValidOperand k.value) (kept_from held e os)
+kept_held : (held : List VariableSlots) (e : ℕ) (os : List Operand) → AllByRecursion IsValidOperand os → AllByRecursion (λ k. IsValidOperand k.value) (kept_from held e os)
 kept_held held e [] h = tt
 kept_held held e (o ∷ os) h = (h.0, kept_held held (suc e) os h.1)
 
-kept_slots : (p : Placing) (loops : List ℕ) (held : List Held) (deep : ℕ) → p.held ≡ held → (e : ℕ) (os : List Operand) (ts : CoreTerms) → length os ≡ count_terms ts → AreInsideFrom p loops deep e ts → AreSlotsFrom held e deep (kept_from held e os)
+kept_slots : (p : Placing) (loops : List ℕ) (held : List VariableSlots) (deep : ℕ) → p.held ≡ held → (e : ℕ) (os : List Operand) (ts : CoreTerms) → length os ≡ count_terms ts → AreInsideFrom p loops deep e ts → AreSlotsFrom held e deep (kept_from held e os)
 kept_slots p loops held deep same e [] ts long h = tt
 kept_slots p loops held deep same e (o ∷ os) no_terms long h = absurd (never (length os) long)
   where
@@ -124,7 +124,7 @@ kept_slots p loops held deep same e (o ∷ os) (term_and t ts) long h =
 
 -- A view.
 module _ (names : Names) (p : Placing) (loops : List ℕ) (same : p.held ≡ names.places.now) (old mid : Code) (os : List Operand) (next : Option ℕ) (rest : CoreCommands) where
-  abbrev held : List Held
+  abbrev held : List VariableSlots
   held = names.places.now
 
   abbrev table : List MemEntry
@@ -142,7 +142,7 @@ module _ (names : Names) (p : Placing) (loops : List ℕ) (same : p.held ≡ nam
             (record {
               within = under (length old.operations) (length made.operations) (length mid.operations) long;
               there = at_end (length mid.operations);
-              operations = ap (λ (l : List Operation). slice_range l (length old.operations) (length mid.operations)) m.adds.operations ∙ range_added old.operations made.operations (length mid.operations) long;
+              operations = ap (λ (l : List CodeOperation). slice_range l (length old.operations) (length mid.operations)) m.adds.operations ∙ range_added old.operations made.operations (length mid.operations) long;
               values = ap operands_kept kept ∙ (kept_operands held entity os ∙ m.values);
             })),
         subst (λ (l : List Kept). AreSlotsFrom held entity deep l) (sym kept) (kept_slots p loops held deep same entity os ts (ap (λ l. length l) m.values ∙ values_made held table (length old.operations) ts) can.0.0),

@@ -12,7 +12,7 @@ use Rattle.dh_meaning.specs.Bindings.{kind_found, let_kind}
 use Rattle.dh_tree.specs.Kinds.{iterator_kind}
 use Rattle.dh_meaning.specs.Ways.{all_entities_of}
 use Rattle.dh_code.specs.declared.places.Declared.{Declared}
-use Rattle.dh_code.specs.declared.places.Held.{Held}
+use Rattle.dh_code.specs.declared.places.VariableSlots.{VariableSlots}
 use Rattle.dh_code.specs.Ranks.{copies_in}
 use Rattle.dh_code.specs.Slots.{Placing}
 
@@ -130,11 +130,11 @@ kind_declared None = kind.Bool
 kind_declared (Some d) = d.kind_is
 
 -- the slots of a variable behind so many; what is no variable has one
-abbrev pub held_behind : (count : ℕ) → Option Declaration → Held
+abbrev pub held_behind : (count : ℕ) → Option Declaration → VariableSlots
 held_behind count d = record { kind = kind_declared d; depth = length (declared_factors d); first = count }
 
 -- those of so many entities, from a number on, behind so many slots
-abbrev pub all_held : List Declaration → (count from entities : ℕ) → List Held
+abbrev pub all_held : List Declaration → (count from entities : ℕ) → List VariableSlots
 all_held ds count from zero = []
 all_held ds count from (suc entities) =
     held_behind count (declaration_in ds from) ∷ all_held ds (count + copies_in (declared_factors (declaration_in ds from))) (suc from) entities

@@ -34,14 +34,14 @@ use Rattle.dh_code.specs.declared.codes.Kept.{Kept}
 use Rattle.dh_code.specs.declared.codes.Target.{Target}
 use Rattle.dh_code.specs.declared.codes.Operand.{Operand}
 use Rattle.dh_code.specs.declared.codes.Operand.TheVariants.{Constant, Given}
-use Rattle.dh_code.specs.declared.codes.Operation.{Operation}
-use Rattle.dh_code.specs.declared.codes.Flat.{Flat}
+use Rattle.dh_code.specs.declared.codes.CodeOperation.{CodeOperation}
+use Rattle.dh_code.specs.declared.codes.FlatExpression.{FlatExpression}
 use Rattle.dh_code.specs.declared.flattening.Names.{Names}
 use Rattle.dh_code.specs.Coded.{AreCoded, ExtendsCode}
 use Rattle.dh_code.specs.Made.{AllMade, MadeExpression, access_to, aimed_target, binary_made, converted_made, hidden_operand, target_made, term_made, terms_made}
 use Rattle.dh_code.specs.Operated.{mask_of}
 use Rattle.dh_code.specs.Scenes.{IsSoundCode}
-use Rattle.dh_code.specs.declared.places.Held.{Held}
+use Rattle.dh_code.specs.declared.places.VariableSlots.{VariableSlots}
 use Rattle.dh_code.specs.Slots.{Placing, held_at}
 use Rattle.dh_code.specs.Suited.{AreSuited, CanDoAll, IsSuited, IsSuitedTarget}
 
@@ -53,7 +53,7 @@ abbrev pub table_in : Names → List MemEntry
 table_in names = table_of (program_seen names.program.now)
 
 -- these operations are added, and nothing else
-pub record AddsOnlyOperations (old new : Code) (os : List Operation) : Type 0 where
+pub record AddsOnlyOperations (old new : Code) (os : List CodeOperation) : Type 0 where
   pub operations : new.operations ≡ old.operations ++ os
   pub steps : new.steps ≡ old.steps
 
@@ -67,7 +67,7 @@ pub record AreMade (old new : Code) (os : List Operand) (m : AllMade) : Type 0 w
   pub values : os ≡ m.values
 
 -- one operation more, whose value is of a kind
-pub record IsOneMore (old new : Code) (operation : Operation) (kind : Kind) (o : Operand) : Type 0 where
+pub record IsOneMore (old new : Code) (operation : CodeOperation) (kind : Kind) (o : Operand) : Type 0 where
   pub adds : AddsOnlyOperations old new (operation ∷ [])
   pub value : o ≡ Given kind (length old.operations) (mask_of kind)
 
@@ -87,7 +87,7 @@ abbrev pub Aims : Names → Ref → List Operand → Target → Type 0
 Aims names r os t = t ≡ aimed_target names.places.now (way_of (known_by_names names) r) os
 
 -- what variables hold that keep offsets
-abbrev pub hidden_operands : List Held → List Hidden → List Operand
+abbrev pub hidden_operands : List VariableSlots → List Hidden → List Operand
 hidden_operands held hs = map (λ h. hidden_operand held (hidden_seen h)) hs
 
 -- the offsets of a suffix, without its factors
@@ -101,7 +101,7 @@ FlattensOffsets names old new form os =
     → AreMade old new os (terms_made names.places.now (table_in names) (length old.operations) (core_terms (known_by_names names) n (terms (offsets_of (view_plan form)))))
 
 -- operands that are kept in variables whose entities follow one another
-abbrev pub kept_from : List Held → (entity : ℕ) → List Operand → List Kept
+abbrev pub kept_from : List VariableSlots → (entity : ℕ) → List Operand → List Kept
 kept_from held entity [] = []
 kept_from held entity (o ∷ os) = record { value = o; first = (held_at held entity).first } ∷ kept_from held (suc entity) os
 
@@ -123,19 +123,19 @@ AddsBinary old new op left right o =
     (base middle : Code) (l r : MadeExpression) → IsExpressionMade base middle left l → IsExpressionMade middle old right r → IsExpressionMade base new o (binary_made (length base.operations) op l r)
 
 -- this was made behind what there was, and is an expression by its first and last operation
-pub record IsFlatMade (old new : Code) (m : MadeExpression) (f : Flat) : Type 0 where
+pub record IsFlatMade (old new : Code) (m : MadeExpression) (f : FlatExpression) : Type 0 where
   pub adds : AddsOnlyOperations old new m.operations
   pub from : f.from ≡ length old.operations
   pub to : f.to ≡ length new.operations
   pub value : f.value ≡ m.value
 
-abbrev pub HoldsFlat : Names → (old new : Code) → Expr → Flat → Type 0
+abbrev pub HoldsFlat : Names → (old new : Code) → Expr → FlatExpression → Type 0
 HoldsFlat names old new e f =
     (n : ℕ) → IsSuited (table_in names) (core_term (known_by_names names) n (term_seen e))
     → IsFlatMade old new (term_made names.places.now (table_in names) (length old.operations) (core_term (known_by_names names) n (term_seen e))) f
 
 -- what a `let` sets its variable to
-abbrev pub HoldsFirst : Names → (old new : Code) → Option Kind → Option Expr → Flat → Type 0
+abbrev pub HoldsFirst : Names → (old new : Code) → Option Kind → Option Expr → FlatExpression → Type 0
 HoldsFirst names old new declared value f =
     (n : ℕ) → IsSuited (table_in names) (first_value (known_by_names names) n declared (option_map term_seen value))
     → IsFlatMade old new (term_made names.places.now (table_in names) (length old.operations) (first_value (known_by_names names) n declared (option_map term_seen value))) f
@@ -165,7 +165,7 @@ FlattensOther names old new other first =
     → IsInFront names old new first None (core_other (known_by_names names) n (maybe_seen (option_map (λ b. action_seen b.value) other))) no_commands
 
 -- a value without operations
-pub record IsStillAt (code : Code) (value : Operand) (f : Flat) : Type 0 where
+pub record IsStillAt (code : Code) (value : Operand) (f : FlatExpression) : Type 0 where
   pub from : f.from ≡ length code.operations
   pub to : f.to ≡ length code.operations
   pub value_is : f.value ≡ value
@@ -178,12 +178,12 @@ pub record AddsStep (old new : Code) (a : Action) (next first : Option ℕ) : Ty
 
 -- a command that does nothing
 pub record AddsNothing (old new : Code) (next first : Option ℕ) : Type 0 where
-  pub test : Flat
+  pub test : FlatExpression
   pub step : AddsStep old new (Choose test None None) next first
   pub still : IsStillAt old (Constant (truth false)) test
 
 -- a variable is set to the value of this code
-abbrev pub IsAssignedIn : Names → (old new : Code) → Ref → Flat → (next first : Option ℕ) → Type 0
+abbrev pub IsAssignedIn : Names → (old new : Code) → Ref → FlatExpression → (next first : Option ℕ) → Type 0
 IsAssignedIn names old new r f next first =
     AddsStep old new (Assign f (held_at names.places.now (entity_number r.entity)).first (held_at names.places.now (entity_number r.entity)).depth) next first
 

@@ -16,31 +16,31 @@ use Rattle.dh_code.specs.declared.codes.Operand.TheVariants.{Constant, Variable,
 use Rattle.dh_code.specs.declared.codes.Target.{Target}
 use Rattle.dh_code.specs.declared.codes.Target.TheVariants.{Indices, Row, Through}
 use Rattle.dh_code.specs.declared.codes.Access.{Access}
-use Rattle.dh_code.specs.declared.codes.Operation.{Operation}
-use Rattle.dh_code.specs.declared.codes.Operation.TheVariants.{Binary, Convert, Read}
-use Rattle.dh_code.specs.declared.places.Held.{Held}
+use Rattle.dh_code.specs.declared.codes.CodeOperation.{CodeOperation}
+use Rattle.dh_code.specs.declared.codes.CodeOperation.TheVariants.{Binary, Convert, Read}
+use Rattle.dh_code.specs.declared.places.VariableSlots.{VariableSlots}
 use Rattle.dh_meaning.specs.Ways.{Hidden, Way}
 use Rattle.dh_code.specs.Passing.{step_views}
 use Rattle.dh_code.specs.Slots.{held_at}
 use Rattle.dh_code.specs.Operated.{kind_of_operand, mask_of}
 
 pub record MadeExpression : Type 0 where
-  pub operations : List Operation
+  pub operations : List CodeOperation
   pub value : Operand
 
-abbrev pub made_expression : List Operation → Operand → MadeExpression
+abbrev pub made_expression : List CodeOperation → Operand → MadeExpression
 made_expression operations value = record { operations = operations; value = value }
 
 -- of indices: their values
 pub record AllMade : Type 0 where
-  pub operations : List Operation
+  pub operations : List CodeOperation
   pub values : List Operand
 
-abbrev pub all_made : List Operation → List Operand → AllMade
+abbrev pub all_made : List CodeOperation → List Operand → AllMade
 all_made operations values = record { operations = operations; values = values }
 
 -- one operation more, whose value is of this kind
-abbrev pub one_more : (at : ℕ) → List Operation → Operation → Kind → MadeExpression
+abbrev pub one_more : (at : ℕ) → List CodeOperation → CodeOperation → Kind → MadeExpression
 one_more at os o kind = made_expression (os ++ o ∷ []) (Given kind (at + length os) (mask_of kind))
 
 -- a value in another kind: nothing is done where it is of that kind already
@@ -55,31 +55,31 @@ abbrev pub access_to : Reach → Target → Access
 access_to reach target = record { place = reach.place; memory = reach.memory; target = target }
 
 -- an element that is read behind the code of its indices
-abbrev pub read_of : List MemEntry → (at : ℕ) → Reach → List Operation → Target → MadeExpression
+abbrev pub read_of : List MemEntry → (at : ℕ) → Reach → List CodeOperation → Target → MadeExpression
 read_of table at reach os target = one_more at os (Read (access_to reach target)) (kind_in table reach.memory)
 
 -- the code of which element, in front of its access
 pub record Aimed : Type 0 where
-  pub operations : List Operation
+  pub operations : List CodeOperation
   pub target : Target
 
-abbrev pub aimed : List Operation → Target → Aimed
+abbrev pub aimed : List CodeOperation → Target → Aimed
 aimed operations target = record { operations = operations; target = target }
 
-abbrev pub variable_operand : List Held → Kind → (entity : ℕ) → Operand
+abbrev pub variable_operand : List VariableSlots → Kind → (entity : ℕ) → Operand
 variable_operand held kind entity = Variable (held_at held entity).first (held_at held entity).depth kind (mask_of kind)
 
 -- a variable that keeps an offset of a view
-abbrev pub hidden_operand : List Held → Hidden → Operand
+abbrev pub hidden_operand : List VariableSlots → Hidden → Operand
 hidden_operand held h = variable_operand held h.kind h.entity
 
 -- which element these values of indices name, of a memory or through the views on a way
-abbrev pub aimed_target : List Held → Option Way → List Operand → Target
+abbrev pub aimed_target : List VariableSlots → Option Way → List Operand → Target
 aimed_target held None os = Indices os
 aimed_target held (Some w) os = Through (step_views w.steps) (length os) (os ++ map (hidden_operand held) w.hidden)
 
 abbrev mutual
-  pub term_made : List Held → List MemEntry → (at : ℕ) → CoreTerm → MadeExpression
+  pub term_made : List VariableSlots → List MemEntry → (at : ℕ) → CoreTerm → MadeExpression
   term_made held table at (literal kind negative n) = made_expression [] (Constant (with_bits kind (bits_of kind negative n)))
   term_made held table at (truth_literal value) = made_expression [] (Constant (operations.truth value))
   term_made held table at (variable kind depth entity) = made_expression [] (variable_operand held kind entity)
@@ -88,12 +88,12 @@ abbrev mutual
       binary_made at op (term_made held table at left) (term_made held table (at + length (term_made held table at left).operations) right)
   term_made held table at (convert to inner) = converted_made at to (term_made held table at inner)
 
-  pub target_made : List Held → List MemEntry → (at : ℕ) → core.Target → Aimed
+  pub target_made : List VariableSlots → List MemEntry → (at : ℕ) → core.Target → Aimed
   target_made held table at (by_indices indices) = aimed (terms_made held table at indices).operations (Indices (terms_made held table at indices).values)
   target_made held table at (by_views steps n terms) = aimed (terms_made held table at terms).operations (Through (step_views steps) n (terms_made held table at terms).values)
   target_made held table at (by_row bank row) = aimed (term_made held table at row).operations (Row bank (term_made held table at row).value)
 
-  pub terms_made : List Held → List MemEntry → (at : ℕ) → CoreTerms → AllMade
+  pub terms_made : List VariableSlots → List MemEntry → (at : ℕ) → CoreTerms → AllMade
   terms_made held table at no_terms = all_made [] []
   terms_made held table at (term_and t ts) =
       all_made ((term_made held table at t).operations ++ (terms_made held table (at + length (term_made held table at t).operations) ts).operations)

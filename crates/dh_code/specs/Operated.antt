@@ -20,8 +20,8 @@ use Rattle.dh_code.specs.declared.operands.View.{View}
 use Rattle.dh_code.specs.declared.codes.Target.{Target}
 use Rattle.dh_code.specs.declared.codes.Target.TheVariants.{Indices, Row, Through}
 use Rattle.dh_code.specs.declared.codes.Access.{Access}
-use Rattle.dh_code.specs.declared.codes.Operation.{Operation}
-use Rattle.dh_code.specs.declared.codes.Operation.TheVariants.{Binary, Convert, Read}
+use Rattle.dh_code.specs.declared.codes.CodeOperation.{CodeOperation}
+use Rattle.dh_code.specs.declared.codes.CodeOperation.TheVariants.{Binary, Convert, Read}
 
 -- what an operation sees: the slots of variables, what operations before it gave, and the ranks of the path
 pub record Sight : Type 0 where
@@ -80,27 +80,27 @@ abbrev pub converted_word : Sight → Operand → Kind → Word
 converted_word s from to = word_of to (words.value_of (operand_word s from))
 
 -- what an operation gives
-abbrev pub word_of_operation : Begun → Sight → Operation → Word
+abbrev pub word_of_operation : Begun → Sight → CodeOperation → Word
 word_of_operation b s (Binary op left right) = binary_of op (operand_word s left) (operand_word s right)
 word_of_operation b s (Convert from to) = word_of to (words.value_of (operand_word s from))
 word_of_operation b s (Read access) = with_bits (kind_in b.table access.memory) (bits_at b.memories (access_spot b s access))
 
 -- the access or fault that it makes
-abbrev pub events_of_operation : Begun → Sight → Operation → List Event
+abbrev pub events_of_operation : Begun → Sight → CodeOperation → List Event
 events_of_operation b s (Binary op left right) = []
 events_of_operation b s (Convert from to) = []
 events_of_operation b s (Read access) = read_made (unnumbered access) [] (access_spot b s access) ∷ []
 
 -- what was given so far, with the value of an operation under its number
-abbrev pub with_given : Begun → Sight → (at : ℕ) → Operation → Sight
+abbrev pub with_given : Begun → Sight → (at : ℕ) → CodeOperation → Sight
 with_given b s at o = sight s.slots (slice_set s.given at (word_of_operation b s o).bits) s.ranks
 
 -- what is seen after operations that are numbered from a number on, and the accesses and faults that they made
-abbrev pub sight_after : Begun → Sight → (at : ℕ) → List Operation → Sight
+abbrev pub sight_after : Begun → Sight → (at : ℕ) → List CodeOperation → Sight
 sight_after b s at [] = s
 sight_after b s at (o ∷ os) = sight_after b (with_given b s at o) (at + 1) os
 
-abbrev pub events_after : Begun → Sight → (at : ℕ) → List Operation → List Event
+abbrev pub events_after : Begun → Sight → (at : ℕ) → List CodeOperation → List Event
 events_after b s at [] = []
 events_after b s at (o ∷ os) = events_of_operation b s o ++ events_after b (with_given b s at o) (at + 1) os
 
@@ -121,7 +121,7 @@ IsValidTarget table memory (Row bank row) = HasBank table memory bank × IsValid
 abbrev pub IsValidAccess : List MemEntry → Access → Type 0
 IsValidAccess table a = IsValidTarget table a.memory a.target
 
-abbrev pub IsOperation : List MemEntry → Operation → Type 0
+abbrev pub IsOperation : List MemEntry → CodeOperation → Type 0
 IsOperation table (Binary op left right) = Suits op (kind_of_operand left) (kind_of_operand right) × (IsValidOperand left × IsValidOperand right)
 IsOperation table (Convert from to) = IsInteger to × IsValidOperand from
 IsOperation table (Read access) = IsValidAccess table access

@@ -8,7 +8,7 @@ use Rattle.dh_tree.specs.declared.trees.commands.Command.{Command}
 use Rattle.dh_tree.specs.Seen.{action_seen, groups, maybe_seen, part_seen}
 use Rattle.dh_ways.specs.declared.ways.Hidden.{Hidden}
 use Rattle.dh_code.specs.declared.places.Declared.{Declared}
-use Rattle.dh_code.specs.declared.places.Held.{Held}
+use Rattle.dh_code.specs.declared.places.VariableSlots.{VariableSlots}
 use Rattle.dh_code.specs.Declarations.{Declaration, all_held, declarations, declaration_in, declared_of, factors_inside, groups_declarations, other_declarations, slots_counted}
 use Rattle.dh_code.specs.Ranks.{copies_in}
 use Rattle.dh_base.specs.Limits.{most_copies}
@@ -45,7 +45,7 @@ AreFound ds found = AreKept (λ entity. option_map declared_of (declaration_in d
 abbrev pub KeepsFound : (old new : List (Option Declared)) → Declared → Type 0
 KeepsFound old new variable = (ds : List Declaration) (d : Declaration) → AreFound ds old → variable ≡ declared_of d → AreFound (ds ++ d ∷ []) new
 
-abbrev pub held_of : Option Declared → (first : ℕ) → Held
+abbrev pub held_of : Option Declared → (first : ℕ) → VariableSlots
 held_of None first = record { kind = kind.Bool; depth = 0; first = first }
 held_of (Some d) first = record { kind = d.kind; depth = d.depth; first = first }
 
@@ -62,7 +62,7 @@ abbrev pub most_entities : ℕ
 most_entities = 2 ^ 23
 
 -- the slots of variables, one behind the other
-abbrev pub AreLaidSlots : List (Option Declared) → List Held → (count : ℕ) → Type 0
+abbrev pub AreLaidSlots : List (Option Declared) → List VariableSlots → (count : ℕ) → Type 0
 AreLaidSlots found held count = (ds : List Declaration) → AreFound ds found → (held ≡ all_held ds 0 0 (length found)) × (count ≡ slots_counted ds 0 0 (length found))
 
 -- what is named is one of the first so many entities
@@ -79,7 +79,7 @@ abbrev pub AreFewHidden : List Hidden → Type 0
 AreFewHidden hidden = (ds : List Declaration) × ((map declared_of ds ≡ map hidden_as hidden) × AreFew ds)
 
 -- the slots of the variables of a command and of these behind them, of so many entities
-abbrev pub ArePlaces : Command → List Hidden → (entities : ℕ) → List Held → (count : ℕ) → Type 0
+abbrev pub ArePlaces : Command → List Hidden → (entities : ℕ) → List VariableSlots → (count : ℕ) → Type 0
 ArePlaces body hidden entities held count =
     (ds : List Declaration) → map declared_of ds ≡ map hidden_as hidden
     → (held ≡ all_held (declarations [] (action_seen body) ++ ds) 0 0 entities) × (count ≡ slots_counted (declarations [] (action_seen body) ++ ds) 0 0 entities)

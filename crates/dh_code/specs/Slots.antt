@@ -4,19 +4,19 @@ use Rattle.dh_value.specs.declared.kinds.Kind.TheVariants as kind
 use Rattle.dh_value.specs.Words.{residue}
 use Rattle.dh_meaning.specs.Paths.{Path}
 use Rattle.dh_meaning.specs.Effects.{Variables}
-use Rattle.dh_code.specs.declared.places.Held.{Held}
+use Rattle.dh_code.specs.declared.places.VariableSlots.{VariableSlots}
 use Rattle.dh_code.specs.Ranks.{IsPath, copies_in, rank_of}
 
 -- the slots of each variable by its entity, and the factors of the loops round its declaration
 pub record Placing : Type 0 where
-  pub held : List Held
+  pub held : List VariableSlots
   pub factors : ℕ → List ℕ
 
 -- what is no variable has the first slot
-abbrev pub held_nowhere : Held
+abbrev pub held_nowhere : VariableSlots
 held_nowhere = record { kind = kind.Bool; depth = 0; first = 0 }
 
-abbrev pub held_at : List Held → (entity : ℕ) → Held
+abbrev pub held_at : List VariableSlots → (entity : ℕ) → VariableSlots
 held_at held entity = slice_index_or held entity held_nowhere
 
 -- the slot of a variable at a path inside the loops round its declaration

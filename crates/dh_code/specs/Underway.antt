@@ -3,8 +3,8 @@ use Rattle.std.specs.Prelude.{◌≡◌, ℕ, ◌+◌, ◌≤◌, List, Option, 
 use Rattle.dh_meaning.specs.Paths.{Path}
 use Rattle.dh_meaning.specs.Core.{CoreCommands}
 use Rattle.dh_meaning.specs.Effects.{Effect, commands_run}
-use Rattle.dh_code.specs.declared.evaluating.Scene.{Scene}
-use Rattle.dh_code.specs.declared.running.State.{State}
+use Rattle.dh_code.specs.declared.evaluating.StepContext.{StepContext}
+use Rattle.dh_code.specs.declared.running.StepState.{StepState}
 use Rattle.dh_code.specs.Coded.{AreCoded}
 use Rattle.dh_code.specs.Scenes.{begun_in}
 use Rattle.dh_code.specs.Slots.{Placing}
@@ -17,7 +17,7 @@ list_depth None = 0
 list_depth (Some n) = n + 1
 
 -- commands that were done up to one
-pub record RunSoFar (s : Scene) (old : State) (rows : List (List ℕ)) (numbers : List ℕ) (first : Option ℕ) (now : State) (list : Option ℕ) : Type 0 where
+pub record RunSoFar (s : StepContext) (old : StepState) (rows : List (List ℕ)) (numbers : List ℕ) (first : Option ℕ) (now : StepState) (list : Option ℕ) : Type 0 where
   pub ready : IsReadyState s now
   pub back : KeepsBack old now
   pub low : list_depth list ≤ list_depth first

@@ -79,7 +79,7 @@ pub struct Access {
 
 /// An operation, which gives one value.
 #[derive(Drop)]
-pub enum Operation {
+pub enum CodeOperation {
     /// An operator on two values of the kinds that suit it.
     Binary {
         /// The operator.
@@ -105,7 +105,7 @@ pub enum Operation {
 
 /// An expression: operations that stand one after the other, and its value behind them.
 #[derive(Clone, Copy)]
-pub struct Flat {
+pub struct FlatExpression {
     /// The number of the first operation.
     pub from: usize,
     /// The number behind that of the last one.
@@ -129,14 +129,14 @@ pub enum Action {
     /// Writes a value to an element; the operations are those of the value and then of the indices.
     Store {
         /// The value.
-        value: Flat,
+        value: FlatExpression,
         /// The element.
         access: Access,
     },
     /// Sets a variable.
     Assign {
         /// The value.
-        value: Flat,
+        value: FlatExpression,
         /// The slot of the variable's first copy.
         first: u32,
         /// Of how many loops round it each copy has a slot.
@@ -156,7 +156,7 @@ pub enum Action {
     /// Does commands by a test.
     Choose {
         /// The test.
-        test: Flat,
+        test: FlatExpression,
         /// Those that are done where it holds, from the first one on.
         chosen: Option<usize>,
         /// Those that are done where it does not.
@@ -167,7 +167,7 @@ pub enum Action {
 /// A command, and the one behind it. Every list of commands begins at an earlier number than those
 /// that lead to it.
 #[derive(Drop)]
-pub struct Step {
+pub struct ListedCommand {
     /// What it does.
     pub action: Action,
     /// The number of the command behind it, if there is one.
@@ -178,9 +178,9 @@ pub struct Step {
 #[derive(Drop)]
 pub struct Code {
     /// The operations of all expressions.
-    pub operations: Items<Operation>,
+    pub operations: Items<CodeOperation>,
     /// The commands.
-    pub steps: Items<Step>,
+    pub steps: Items<ListedCommand>,
 }
 
 /// The kind of a value.

@@ -4,7 +4,7 @@ ghost use Rattle.std.specs.Prelude.{◌≡◌, ◌+◌, ◌<◌, ◌≤◌, ◌^
 ghost use Rattle.std.specs.List.{AllByRecursion};
 ghost use Rattle.dh_base.specs.declared.outcomes.FaultKind.TheVariants.{OutOfRange};
 ghost use Rattle.dh_base.specs.declared.outcomes.Outcome.TheVariants.{Faulted, Stuck};
-ghost use Rattle.dh_code.specs.declared.evaluating.Stop.TheVariants as stop;
+ghost use Rattle.dh_code.specs.declared.evaluating.StepStop.TheVariants as stop;
 ghost use Rattle.dh_tree.specs.Elements.{banks_of};
 ghost use Rattle.dh_value.specs.declared.operators.Op.TheVariants as op;
 ghost use Rattle.dh_value.specs.Operations.{AreIntegers, Suits, binary_of};
@@ -15,7 +15,7 @@ ghost use Rattle.dh_code.specs.Operated.{IsValidAccess, IsValidOperand, IsOperat
 ghost use Rattle.dh_code.specs.Spent.{StayUsed};
 ghost use Rattle.dh_code.specs.Scenes.{IsScene, AccessLeadsTo, ShowsAfter, SpendsMore, begun_in, scene_events, one_given, spread_element, element_read, read_events, read_given};
 
-use crate::codes::{Access, Code, Operand, Operation, Target};
+use crate::codes::{Access, Code, CodeOperation, Operand, Target};
 use crate::operands::{View, element_of, mask_at, value_at};
 use crate::passing::locate_through;
 use crate::spending::{Bank, read_row};
@@ -28,40 +28,40 @@ use std::alloc::{AllocError, AllocFailed, Global};
 
 /// Why a step ends early.
 #[derive(Clone, Copy)]
-pub enum Stop {
+pub enum StepStop {
     /// A fault, or an access with which a bank spends more than its ports.
     At(Outcome),
     /// Want of memory.
     NoMemory,
 }
 
-impl From<NoMemory> for Stop {
+impl From<NoMemory> for StepStop {
     ghost from_gives = { λ _ e. e ≡ stop.NoMemory };
 
-    fn from(_refused: NoMemory) -> Stop {
-        Stop::NoMemory
+    fn from(_refused: NoMemory) -> StepStop {
+        StepStop::NoMemory
     }
 }
 
-impl From<AllocError> for Stop {
+impl From<AllocError> for StepStop {
     ghost from_gives = { λ _ e. e ≡ stop.NoMemory };
 
-    fn from(_refused: AllocError) -> Stop {
-        Stop::NoMemory
+    fn from(_refused: AllocError) -> StepStop {
+        StepStop::NoMemory
     }
 }
 
-impl<T: Drop> From<AllocFailed<T>> for Stop {
+impl<T: Drop> From<AllocFailed<T>> for StepStop {
     ghost from_gives = { λ _ e. e ≡ stop.NoMemory };
 
-    fn from(_refused: AllocFailed<T>) -> Stop {
-        Stop::NoMemory
+    fn from(_refused: AllocFailed<T>) -> StepStop {
+        StepStop::NoMemory
     }
 }
 
 /// What stays as it is during a step.
 #[derive(Clone, Copy)]
-pub struct Scene<'a> {
+pub struct StepContext<'a> {
     /// Where lists of paths are made.
     pub alloc: Global,
     /// The code.
@@ -77,22 +77,22 @@ pub struct Scene<'a> {
 }
 
 /// A fault where an index is out of range.
-pub fn out_of_range(place: Place) -> Stop
+pub fn out_of_range(place: Place) -> StepStop
     ensures { result ≡ stop.At (Faulted OutOfRange place) }
 {
-    Stop::At(Outcome::Faulted {
+    StepStop::At(Outcome::Faulted {
         kind: FaultKind::OutOfRange,
         place,
     })
 }
 
 /// The outcome where an access at this place spends more than the ports of a memory's bank.
-pub fn stuck(place: Place, element: Element) -> Stop
+pub fn stuck(place: Place, element: Element) -> StepStop
     requires memory { element.memory < 2 ^ 32 }
     requires bank { element.bank < 2 ^ 32 }
     ensures { result ≡ stop.At (Stuck element.memory element.bank place) }
 {
-    Stop::At(Outcome::Stuck {
+    StepStop::At(Outcome::Stuck {
         memory: element.memory as u32,
         bank: element.bank as u32,
         place,
@@ -100,7 +100,7 @@ pub fn stuck(place: Place, element: Element) -> Stop
 }
 
 /// The place of a bank among those of all memories.
-pub fn bank_at(scene: &Scene<'_>, element: Element) -> usize
+pub fn bank_at(scene: &StepContext<'_>, element: Element) -> usize
     requires scene { IsScene scene.now }
     requires there { HasBank scene.now.entries.now element.memory element.bank }
     ensures place { result ≡ first_bank scene.now.entries.now element.memory + element.bank }
@@ -140,7 +140,7 @@ pub fn element_at(memory: usize, spread: Spread) -> Element
 /// Where an access of any target leads; None where it is out of range.
 #[inline(never)]
 fn reached_otherwise(
-    scene: &Scene<'_>,
+    scene: &StepContext<'_>,
     slots: &[u64],
     given: &[u64],
     ranks: &[u32],
@@ -181,7 +181,7 @@ fn reached_otherwise(
 /// others take stands apart.)
 #[inline(always)]
 pub fn reached(
-    scene: &Scene<'_>,
+    scene: &StepContext<'_>,
     slots: &[u64],
     given: &[u64],
     ranks: &[u32],
@@ -207,7 +207,12 @@ pub fn reached(
 }
 
 /// Takes the port that a read of an element needs, where it needs one.
-fn take(scene: &Scene<'_>, banks: &mut [Bank], place: Place, element: Element) -> Result<(), Stop>
+fn take(
+    scene: &StepContext<'_>,
+    banks: &mut [Bank],
+    place: Place,
+    element: Element,
+) -> Result<(), StepStop>
     requires scene { IsScene scene.now }
     requires there { HasBank scene.now.entries.now element.memory element.bank }
     requires long { length banks.old ≡ all_banks scene.now.entries.now }
@@ -227,14 +232,14 @@ fn take(scene: &Scene<'_>, banks: &mut [Bank], place: Place, element: Element) -
 /// Finds and reads the element of an access, and keeps its bits under the number of the operation.
 /// (An answer that is an error or the bits would be moved in parts, which takes long.)
 fn read(
-    scene: &Scene<'_>,
+    scene: &StepContext<'_>,
     slots: &[u64],
     ranks: &[u32],
     given: &mut [u64],
     banks: &mut [Bank],
     at: usize,
     access: &Access,
-) -> Result<(), Stop>
+) -> Result<(), StepStop>
     requires scene { IsScene scene.now }
     requires access { IsValidAccess scene.now.entries.now access.now }
     requires long { length banks.old ≡ all_banks scene.now.entries.now }
@@ -413,14 +418,14 @@ pub fn set_number(list: &mut [u64], at: usize, number: u64)
 
 /// Does the operation of a number.
 fn perform(
-    scene: &Scene<'_>,
+    scene: &StepContext<'_>,
     slots: &[u64],
     ranks: &[u32],
     given: &mut [u64],
     banks: &mut [Bank],
     at: usize,
-    operation: &Operation,
-) -> Result<(), Stop>
+    operation: &CodeOperation,
+) -> Result<(), StepStop>
     requires scene { IsScene scene.now }
     requires operation { IsOperation scene.now.entries.now operation.now }
     requires long { length banks.old ≡ all_banks scene.now.entries.now }
@@ -433,30 +438,30 @@ fn perform(
         (scene_events scene.now (sight slots.now given.old ranks.now) operation.now) }
 {
     match operation {
-        Operation::Binary { op, left, right } => {
+        CodeOperation::Binary { op, left, right } => {
             let bits = combined(slots, given, ranks, *op, left, right);
             set_number(given, at, bits);
             Ok(())
         }
-        Operation::Convert { from, to } => {
+        CodeOperation::Convert { from, to } => {
             let bits = converted(slots, given, ranks, from, *to);
             set_number(given, at, bits);
             Ok(())
         }
-        Operation::Read { access } => read(scene, slots, ranks, given, banks, at, access),
+        CodeOperation::Read { access } => read(scene, slots, ranks, given, banks, at, access),
     }
 }
 
 /// Does operations in order, of which the first one has this number.
 pub fn operate(
-    scene: &Scene<'_>,
+    scene: &StepContext<'_>,
     slots: &[u64],
     ranks: &[u32],
     given: &mut [u64],
     banks: &mut [Bank],
     at: usize,
-    operations: &[Operation],
-) -> Result<(), Stop>
+    operations: &[CodeOperation],
+) -> Result<(), StepStop>
     requires scene { IsScene scene.now }
     requires operations { AllByRecursion (IsOperation scene.now.entries.now) operations.now }
     requires room { at + length operations.now ≤ length given.old }

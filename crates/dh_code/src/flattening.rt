@@ -8,18 +8,19 @@ ghost use Rattle.dh_meaning.specs.CoreOf.{entity_number, memory_of, way_of};
 ghost use Rattle.dh_meaning.specs.Ways.{hidden_in};
 ghost use Rattle.dh_ways.specs.Seen.{hidden_seen, way_seen};
 ghost use Rattle.dh_meaning.specs.Effects.{kind_in};
-ghost use Rattle.dh_code.specs.declared.codes.Operation.TheVariants.{Read};
+ghost use Rattle.dh_code.specs.declared.codes.CodeOperation.TheVariants.{Read};
 ghost use Rattle.dh_code.specs.declared.codes.Target.TheVariants.{Row, Through};
 ghost use Rattle.dh_code.specs.Flattening.{Aims, FlattensOffsets, IsKeptIn, kept_from, offsets_by, AddsBinary, AddsNothing, ConvertsTo, ExtendsTo, Flattens, FlattensAll, FlattensCommand, FlattensCommands, FlattensOther, HoldsFirst, HoldsFlat, IsAimedAt, IsAssignedIn, IsOneMore, IsReducedIn, IsStillAt, IsStoredIn, AddsStep, hidden_operands, is_aimed, known_by_names, table_in};
 ghost use Rattle.dh_code.specs.Made.{aimed_target, hidden_operand, variable_operand};
 ghost use Rattle.dh_tree.specs.Kinds.{same_kind};
 
 use crate::codes::{
-    Access, Action, Code, Flat, Kept, Operand, Operation, Step, Target, operand_kind,
+    Access, Action, Code, CodeOperation, FlatExpression, Kept, ListedCommand, Operand, Target,
+    operand_kind,
 };
 use crate::keeping::Apart;
 use crate::operands::{extension, kind_found, kind_mask, literal, result_kind, truth};
-use crate::places::{Held, place_at, place_behind, place_of};
+use crate::places::{VariableSlots, place_at, place_behind, place_of};
 use dh_base::{Items, NoMemory};
 use dh_tree::{
     Command, CommandForm, Expr, ExprForm, Kind, MemEntry, Ref, Typed, ViewForm, ViewMap,
@@ -38,7 +39,7 @@ pub struct Names<'a> {
     /// The ways of its views.
     pub ways: &'a WayTable,
     /// The slots of its variables.
-    pub places: &'a [Held],
+    pub places: &'a [VariableSlots],
 }
 
 /// The number of the memory that an entity is; that of every access of a typed program is one.
@@ -194,7 +195,7 @@ fn variable(names: &Names<'_>, of: &Ref, kind: Kind) -> Operand
 }
 
 /// Adds an operation that gives a value of a kind.
-fn add(code: &mut Code, operation: Operation, kind: Kind) -> Result<Operand, NoMemory>
+fn add(code: &mut Code, operation: CodeOperation, kind: Kind) -> Result<Operand, NoMemory>
     ensures { IfOk result (λ o. IsOneMore code.old code.new operation kind o) }
 {
     let at = code.operations.len();
@@ -222,7 +223,7 @@ fn add_read(names: &Names<'_>, code: &mut Code, access: Access) -> Result<Operan
         (kind_in (table_in names.now) access.memory) o) }
 {
     let kind = element_kind(names.program.memories().as_slice(), access.memory);
-    add(code, Operation::Read { access }, kind)
+    add(code, CodeOperation::Read { access }, kind)
 }
 
 /// Whether two kinds are one.
@@ -244,7 +245,7 @@ fn converted(code: &mut Code, from: Operand, to: Kind) -> Result<Operand, NoMemo
     if is_same(operand_kind(&from), to) {
         return Ok(from);
     }
-    add(code, Operation::Convert { from, to }, to)
+    add(code, CodeOperation::Convert { from, to }, to)
 }
 
 /// An operand, extended to an integer kind; as it is for Bool.
@@ -263,7 +264,7 @@ fn add_binary(code: &mut Code, op: Op, left: Operand, right: Operand) -> Result<
     ensures { IfOk result (λ o. AddsBinary code.old code.new op left right o) }
 {
     let kind = result_kind(op, operand_kind(&left));
-    add(code, Operation::Binary { op, left, right }, kind)
+    add(code, CodeOperation::Binary { op, left, right }, kind)
 }
 
 /// Adds the operations of an expression. Gives its value.
@@ -345,12 +346,12 @@ fn flatten_all(
 }
 
 /// An expression with its operations.
-pub fn flat(names: &Names<'_>, code: &mut Code, value: &Expr) -> Result<Flat, NoMemory>
+pub fn flat(names: &Names<'_>, code: &mut Code, value: &Expr) -> Result<FlatExpression, NoMemory>
     ensures { IfOk result (λ f. HoldsFlat names.now code.old code.new value.now f) }
 {
     let from = code.operations.len();
     let value = flatten(names, code, value)?;
-    Ok(Flat {
+    Ok(FlatExpression {
         from,
         to: code.operations.len(),
         value,
@@ -358,11 +359,11 @@ pub fn flat(names: &Names<'_>, code: &mut Code, value: &Expr) -> Result<Flat, No
 }
 
 /// A value without operations.
-fn still(code: &Code, value: Operand) -> Flat
+fn still(code: &Code, value: Operand) -> FlatExpression
     ensures { IsStillAt code.now value result }
 {
     let from = code.operations.len();
-    Flat {
+    FlatExpression {
         from,
         to: from,
         value,
@@ -374,7 +375,7 @@ fn add_step(code: &mut Code, action: Action, next: Option<usize>) -> Result<Opti
     ensures { IfOk result (λ first. AddsStep code.old code.new action next first) }
 {
     let at = code.steps.len();
-    code.steps.push(Step { action, next })?;
+    code.steps.push(ListedCommand { action, next })?;
     Ok(Some(at))
 }
 
@@ -383,7 +384,7 @@ fn add_assign(
     names: &Names<'_>,
     code: &mut Code,
     target: &Ref,
-    value: Flat,
+    value: FlatExpression,
     next: Option<usize>,
 ) -> Result<Option<usize>, NoMemory>
     ensures { IfOk result (λ first. IsAssignedIn names.now code.old code.new target.now value next
@@ -418,7 +419,7 @@ fn add_reduce(
     let b = flatten(names, code, value)?;
     let b = extended(code, b, to)?;
     let value = add_binary(code, op, a, b)?;
-    let value = Flat {
+    let value = FlatExpression {
         from,
         to: code.operations.len(),
         value,
@@ -433,7 +434,7 @@ fn first_value(
     code: &mut Code,
     declared: Option<Kind>,
     value: &Option<Expr>,
-) -> Result<Flat, NoMemory>
+) -> Result<FlatExpression, NoMemory>
     ensures { IfOk result (λ f. HoldsFirst names.now code.old code.new declared value.now f) }
 {
     match value {
@@ -525,7 +526,7 @@ fn add_store(
     match element(names, code, target)? {
         Some(access) => {
             let to = code.operations.len();
-            let value = Flat { from, to, value };
+            let value = FlatExpression { from, to, value };
             add_step(code, Action::Store { value, access }, next)
         }
         None => add_nothing(code, next),

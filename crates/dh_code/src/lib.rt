@@ -17,11 +17,11 @@ mod spots;
 mod straight;
 mod worths;
 
-pub use codes::{Code, Flat};
-pub use evaluating::{Scene, Stop};
+pub use codes::{Code, FlatExpression};
+pub use evaluating::{StepContext, StepStop};
 pub use flattening::{Names, first_hidden, flat, flatten_commands, is_same, memory_of, way_of};
 pub use operands::{entity_of, extension, kind_found, literal, slot, truth};
 pub use passing::offsets_taken;
-pub use places::{Held, Places, place_all, place_at, place_behind, place_of};
-pub use running::{Change, State, Write, decide, run, set, set_slot, undo, write_all};
+pub use places::{Places, VariableSlots, place_all, place_at, place_behind, place_of};
+pub use running::{StepState, UndoEntry, Write, decide, run, set, set_slot, undo, write_all};
 pub use spending::{Bank, release, unused};

@@ -31,7 +31,7 @@ pub struct Declared {
 
 /// The slots of a variable.
 #[derive(Clone, Copy)]
-pub struct Held {
+pub struct VariableSlots {
     /// The kind of its values.
     pub kind: Kind,
     /// Of how many loops round it each copy has a slot.
@@ -44,7 +44,7 @@ pub struct Held {
 #[derive(Drop)]
 pub struct Places {
     /// Those of each entity.
-    pub held: Vec<Held>,
+    pub held: Vec<VariableSlots>,
     /// How many slots there are.
     pub count: u32,
 }
@@ -196,16 +196,16 @@ fn note(found: &mut [Option<Declared>], variable: Declared)
 }
 
 /// The slots of a variable, behind so many; what is no variable has one.
-fn slots_of(variable: Option<Declared>, first: u32) -> Held
+fn slots_of(variable: Option<Declared>, first: u32) -> VariableSlots
     ensures { result ≡ held_of variable first }
 {
     match variable {
-        Some(variable) => Held {
+        Some(variable) => VariableSlots {
             kind: variable.kind,
             depth: variable.depth,
             first,
         },
-        None => Held {
+        None => VariableSlots {
             kind: Kind::Bool,
             depth: 0,
             first,
@@ -281,7 +281,7 @@ pub fn place_all(
 }
 
 /// The slots of the variable that is an entity.
-pub fn place_at(places: &[Held], entity: usize) -> Held
+pub fn place_at(places: &[VariableSlots], entity: usize) -> VariableSlots
     ensures { result ≡ held_at places.now entity }
 {
     match places.get(entity) {
@@ -291,7 +291,7 @@ pub fn place_at(places: &[Held], entity: usize) -> Held
 }
 
 /// Those behind so many.
-fn behind(places: &[Held], count: usize) -> &[Held]
+fn behind(places: &[VariableSlots], count: usize) -> &[VariableSlots]
     requires { count ≤ length places.now }
     ensures { result.now ≡ drop count places.now }
 {
@@ -299,7 +299,7 @@ fn behind(places: &[Held], count: usize) -> &[Held]
 }
 
 /// The slots of the variable whose entity stands so many behind another.
-pub fn place_behind(places: &[Held], entity: u32, number: usize) -> Held
+pub fn place_behind(places: &[VariableSlots], entity: u32, number: usize) -> VariableSlots
     ensures { result ≡ held_at places.now (entity + number) }
 {
     let entity = entity as usize;
@@ -311,7 +311,7 @@ pub fn place_behind(places: &[Held], entity: u32, number: usize) -> Held
 }
 
 /// The slots of the variable that a name stands for.
-pub fn place_of(places: &[Held], of: &Ref) -> Held
+pub fn place_of(places: &[VariableSlots], of: &Ref) -> VariableSlots
     ensures { result ≡ held_at places.now (entity_number of.now.entity) }
 {
     place_at(places, entity_of(of) as usize)

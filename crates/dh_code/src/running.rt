@@ -11,9 +11,9 @@ ghost use Rattle.dh_code.specs.Scenes.{AreHeldValues, IsHeld, IsScene, AccessLea
 ghost use Rattle.dh_code.specs.Spent.{StayUsed};
 ghost use Rattle.dh_code.specs.States.{AreWritten, AssignsVariable, CanBeDone, Decides, DoesAll, DoesOne, GoBackAlike, IsAside, IsAssigned, IsReadyState, KeepsAll, KeepsBack, KeepsSlots, KeepsVariables, Parts, Puts, SetsKept, ShowsFlat, SpendsFlat, Stores, bits_found, sight_in, undone_slots};
 
-use crate::codes::{Access, Action, Flat, Kept, Operand};
+use crate::codes::{Access, Action, FlatExpression, Kept, Operand};
 use crate::evaluating::{
-    Scene, Stop, bank_at, element_at, operate, out_of_range, reached, set_number, stuck,
+    StepContext, StepStop, bank_at, element_at, operate, out_of_range, reached, set_number, stuck,
 };
 use crate::operands::{number_at, slot, truth, whole};
 use crate::spending::{Bank, write_row};
@@ -37,7 +37,7 @@ pub struct Write {
 
 /// What a slot held before an assignment.
 #[derive(Clone, Copy)]
-pub struct Change {
+pub struct UndoEntry {
     /// The slot.
     pub slot: usize,
     /// What it held.
@@ -46,7 +46,7 @@ pub struct Change {
 
 /// What the commands of a step change.
 #[derive(Drop)]
-pub struct State {
+pub struct StepState {
     /// The slots of the variables: the value of each copy, modulo 2^64.
     pub variables: Vec<u64>,
     /// What each operation gave, by its number.
@@ -56,11 +56,11 @@ pub struct State {
     /// The writes so far, in order.
     pub writes: Vec<Write>,
     /// The assignments so far, in order.
-    pub changes: Vec<Change>,
+    pub changes: Vec<UndoEntry>,
 }
 
 /// Sets a slot.
-pub fn set(state: &mut State, slot: usize, bits: u64) -> Result<(), AllocFailed<Change>>
+pub fn set(state: &mut StepState, slot: usize, bits: u64) -> Result<(), AllocFailed<UndoEntry>>
     ensures banks { state.new.banks ≡ state.old.banks }
     ensures given { state.new.given ≡ state.old.given }
     ensures writes { state.new.writes ≡ state.old.writes }
@@ -69,14 +69,14 @@ pub fn set(state: &mut State, slot: usize, bits: u64) -> Result<(), AllocFailed<
     ensures back { GoBackAlike state.old state.new }
 {
     let before = number_at(state.variables.as_slice(), slot);
-    state.changes.push(Change { slot, before })?;
+    state.changes.push(UndoEntry { slot, before })?;
     set_number(state.variables.as_mut_slice(), slot, bits);
     Ok(())
 }
 
 /// Notes a change where there is no room for it yet.
 #[inline(never)]
-fn note_further(changes: &mut Vec<Change>, change: Change) -> Result<(), NoMemory>
+fn note_further(changes: &mut Vec<UndoEntry>, change: UndoEntry) -> Result<(), NoMemory>
     ensures { changes.new.items
         ≡ (if is_ok result then changes.old.items ++ change ∷ [] else changes.old.items) }
 {
@@ -88,7 +88,7 @@ fn note_further(changes: &mut Vec<Change>, change: Change) -> Result<(), NoMemor
 
 /// Notes a change. (Mostly there is room for it: what makes room stands apart.)
 #[inline(always)]
-fn note(changes: &mut Vec<Change>, change: Change) -> Result<(), NoMemory>
+fn note(changes: &mut Vec<UndoEntry>, change: UndoEntry) -> Result<(), NoMemory>
     ensures { changes.new.items
         ≡ (if is_ok result then changes.old.items ++ change ∷ [] else changes.old.items) }
 {
@@ -103,7 +103,7 @@ fn note(changes: &mut Vec<Change>, change: Change) -> Result<(), NoMemory>
 
 /// Sets a slot, as `set` does, with an answer that fits a register.
 #[inline(always)]
-pub fn set_slot(state: &mut State, slot: usize, bits: u64) -> Result<(), NoMemory>
+pub fn set_slot(state: &mut StepState, slot: usize, bits: u64) -> Result<(), NoMemory>
     ensures banks { state.new.banks ≡ state.old.banks }
     ensures given { state.new.given ≡ state.old.given }
     ensures writes { state.new.writes ≡ state.old.writes }
@@ -113,7 +113,7 @@ pub fn set_slot(state: &mut State, slot: usize, bits: u64) -> Result<(), NoMemor
     ensures back { GoBackAlike state.old state.new }
 {
     let before = number_at(state.variables.as_slice(), slot);
-    note(&mut state.changes, Change { slot, before })?;
+    note(&mut state.changes, UndoEntry { slot, before })?;
     set_number(state.variables.as_mut_slice(), slot, bits);
     Ok(())
 }
@@ -121,11 +121,11 @@ pub fn set_slot(state: &mut State, slot: usize, bits: u64) -> Result<(), NoMemor
 /// Does the operations of an expression at a path of these ranks.
 #[inline(never)]
 fn evaluate_all(
-    scene: &Scene<'_>,
-    state: &mut State,
+    scene: &StepContext<'_>,
+    state: &mut StepState,
     ranks: &[u32],
-    value: &Flat,
-) -> Result<(), Stop>
+    value: &FlatExpression,
+) -> Result<(), StepStop>
     requires scene { IsScene scene.now }
     requires ready { IsReadyState scene.now state.old }
     requires held { IsHeld scene.now.code.now.operations value.now }
@@ -149,7 +149,12 @@ fn evaluate_all(
 
 /// Does the operations of an expression at a path of these ranks, where it has any.
 #[inline(always)]
-fn evaluate(scene: &Scene<'_>, state: &mut State, ranks: &[u32], value: &Flat) -> Result<(), Stop>
+fn evaluate(
+    scene: &StepContext<'_>,
+    state: &mut StepState,
+    ranks: &[u32],
+    value: &FlatExpression,
+) -> Result<(), StepStop>
     requires scene { IsScene scene.now }
     requires ready { IsReadyState scene.now state.old }
     requires held { IsHeld scene.now.code.now.operations value.now }
@@ -168,13 +173,13 @@ fn evaluate(scene: &Scene<'_>, state: &mut State, ranks: &[u32], value: &Flat) -
 /// Evaluates a right side of any operations at a path and sets a variable to it.
 #[inline(always)]
 fn assign_any(
-    scene: &Scene<'_>,
-    state: &mut State,
+    scene: &StepContext<'_>,
+    state: &mut StepState,
     ranks: &[u32],
-    value: &Flat,
+    value: &FlatExpression,
     first: u32,
     depth: u32,
-) -> Result<(), Stop>
+) -> Result<(), StepStop>
     requires scene { IsScene scene.now }
     requires ready { IsReadyState scene.now state.old }
     requires held { IsHeld scene.now.code.now.operations value.now }
@@ -190,13 +195,13 @@ fn assign_any(
 
 /// Evaluates a right side at a path and sets a variable to it.
 fn assign(
-    scene: &Scene<'_>,
-    state: &mut State,
+    scene: &StepContext<'_>,
+    state: &mut StepState,
     ranks: &[u32],
-    value: &Flat,
+    value: &FlatExpression,
     first: u32,
     depth: u32,
-) -> Result<(), Stop>
+) -> Result<(), StepStop>
     requires scene { IsScene scene.now }
     requires ready { IsReadyState scene.now state.old }
     requires held { IsHeld scene.now.code.now.operations value.now }
@@ -214,7 +219,12 @@ fn assign(
 }
 
 /// Adds what operands show, modulo 2^64, as a state sees them at a path of these ranks.
-fn find(state: &State, ranks: &[u32], values: &[Kept], found: &mut Vec<u64>) -> Result<(), NoMemory>
+fn find(
+    state: &StepState,
+    ranks: &[u32],
+    values: &[Kept],
+    found: &mut Vec<u64>,
+) -> Result<(), NoMemory>
     requires operands { AllByRecursion (λ k. IsValidOperand k.value) values.now }
     ensures { OnOk result (found.new.items
         ≡ found.old.items ++ bits_found state.now ranks.now values.now) }
@@ -227,7 +237,7 @@ fn find(state: &State, ranks: &[u32], values: &[Kept], found: &mut Vec<u64>) -> 
 
 /// Sets variables to what was found of their values.
 fn set_all(
-    state: &mut State,
+    state: &mut StepState,
     ranks: &[u32],
     values: &[Kept],
     depth: u32,
@@ -251,14 +261,14 @@ fn set_all(
 /// Evaluates values at a path and then keeps them in variables. (`found` is a list that is used again
 /// at each path.)
 fn keep(
-    scene: &Scene<'_>,
-    state: &mut State,
+    scene: &StepContext<'_>,
+    state: &mut StepState,
     ranks: &[u32],
     range: (usize, usize),
     values: &[Kept],
     depth: u32,
     found: &mut Vec<u64>,
-) -> Result<(), Stop>
+) -> Result<(), StepStop>
     requires scene { IsScene scene.now }
     requires ready { IsReadyState scene.now state.old }
     requires held { AreHeldValues scene.now.code.now.operations range.0 range.1 values.now }
@@ -268,7 +278,7 @@ fn keep(
         values.now depth }
 {
     let word = truth(false);
-    let all = Flat {
+    let all = FlatExpression {
         from: range.0,
         to: range.1,
         value: Operand::Constant { word },
@@ -281,7 +291,12 @@ fn keep(
 }
 
 /// Takes the port that a write needs.
-fn claim(scene: &Scene<'_>, banks: &mut [Bank], place: Place, element: Element) -> Result<(), Stop>
+fn claim(
+    scene: &StepContext<'_>,
+    banks: &mut [Bank],
+    place: Place,
+    element: Element,
+) -> Result<(), StepStop>
     requires scene { IsScene scene.now }
     requires there { HasBank scene.now.entries.now element.memory element.bank }
     requires long { length banks.old ≡ all_banks scene.now.entries.now }
@@ -300,12 +315,12 @@ fn claim(scene: &Scene<'_>, banks: &mut [Bank], place: Place, element: Element) 
 
 /// Writes a value to an element at the end of the step.
 fn put(
-    scene: &Scene<'_>,
-    state: &mut State,
+    scene: &StepContext<'_>,
+    state: &mut StepState,
     place: Place,
     element: Element,
     value: Word,
-) -> Result<(), Stop>
+) -> Result<(), StepStop>
     requires scene { IsScene scene.now }
     requires ready { IsReadyState scene.now state.old }
     requires there { HasBank scene.now.entries.now element.memory element.bank }
@@ -326,7 +341,12 @@ fn put(
 
 /// Where an access leads, as a state sees it at a path of these ranks; None where it is out of
 /// range.
-fn reached_in(scene: &Scene<'_>, state: &State, ranks: &[u32], access: &Access) -> Option<Spread>
+fn reached_in(
+    scene: &StepContext<'_>,
+    state: &StepState,
+    ranks: &[u32],
+    access: &Access,
+) -> Option<Spread>
     requires scene { IsScene scene.now }
     requires access { IsValidAccess scene.now.entries.now access.now }
     ensures { AccessLeadsTo scene.now (sight_in state.now ranks.now) access.now result }
@@ -343,12 +363,12 @@ fn reached_in(scene: &Scene<'_>, state: &State, ranks: &[u32], access: &Access) 
 /// Evaluates a right side at a path, then the indices of an element, and writes the one to the
 /// other.
 fn store(
-    scene: &Scene<'_>,
-    state: &mut State,
+    scene: &StepContext<'_>,
+    state: &mut StepState,
     ranks: &[u32],
-    value: &Flat,
+    value: &FlatExpression,
     access: &Access,
-) -> Result<(), Stop>
+) -> Result<(), StepStop>
     requires scene { IsScene scene.now }
     requires ready { IsReadyState scene.now state.old }
     requires held { IsHeld scene.now.code.now.operations value.now }
@@ -374,11 +394,11 @@ fn store(
 /// Evaluates a test of any operations at a path of these ranks.
 #[inline(never)]
 fn decide_any(
-    scene: &Scene<'_>,
-    state: &mut State,
+    scene: &StepContext<'_>,
+    state: &mut StepState,
     ranks: &[u32],
-    test: &Flat,
-) -> Result<bool, Stop>
+    test: &FlatExpression,
+) -> Result<bool, StepStop>
     requires scene { IsScene scene.now }
     requires ready { IsReadyState scene.now state.old }
     requires held { IsHeld scene.now.code.now.operations test.now }
@@ -393,11 +413,11 @@ fn decide_any(
 
 /// Evaluates a test at a path of these ranks.
 pub fn decide(
-    scene: &Scene<'_>,
-    state: &mut State,
+    scene: &StepContext<'_>,
+    state: &mut StepState,
     ranks: &[u32],
-    test: &Flat,
-) -> Result<bool, Stop>
+    test: &FlatExpression,
+) -> Result<bool, StepStop>
     requires scene { IsScene scene.now }
     requires ready { IsReadyState scene.now state.old }
     requires held { IsHeld scene.now.code.now.operations test.now }
@@ -425,14 +445,14 @@ pub fn ranks_at(rows: &[Vec<u32>], path: usize) -> &[u32]
 /// are done by `assign_on`.)
 #[inline(always)]
 fn assign_at(
-    scene: &Scene<'_>,
-    state: &mut State,
+    scene: &StepContext<'_>,
+    state: &mut StepState,
     rows: &[Vec<u32>],
     paths: &[usize],
-    value: &Flat,
+    value: &FlatExpression,
     first: u32,
     depth: u32,
-) -> Result<(), Stop>
+) -> Result<(), StepStop>
     requires scene { IsScene scene.now }
     requires ready { IsReadyState scene.now state.old }
     requires held { IsHeld scene.now.code.now.operations value.now }
@@ -448,14 +468,14 @@ fn assign_at(
 /// Evaluates a right side at each path in order and sets a variable to it.
 #[inline(never)]
 fn assign_all(
-    scene: &Scene<'_>,
-    state: &mut State,
+    scene: &StepContext<'_>,
+    state: &mut StepState,
     rows: &[Vec<u32>],
     paths: &[usize],
-    value: &Flat,
+    value: &FlatExpression,
     first: u32,
     depth: u32,
-) -> Result<(), Stop>
+) -> Result<(), StepStop>
     requires scene { IsScene scene.now }
     requires ready { IsReadyState scene.now state.old }
     requires held { IsHeld scene.now.code.now.operations value.now }
@@ -473,14 +493,14 @@ fn assign_all(
 /// Evaluates values at each path in order and keeps them in variables.
 #[inline(never)]
 fn keep_all(
-    scene: &Scene<'_>,
-    state: &mut State,
+    scene: &StepContext<'_>,
+    state: &mut StepState,
     rows: &[Vec<u32>],
     paths: &[usize],
     range: (usize, usize),
     values: &[Kept],
     depth: u32,
-) -> Result<(), Stop>
+) -> Result<(), StepStop>
     requires scene { IsScene scene.now }
     requires ready { IsReadyState scene.now state.old }
     requires held { AreHeldValues scene.now.code.now.operations range.0 range.1 values.now }
@@ -507,13 +527,13 @@ fn keep_all(
 /// Stores a value at the one path.
 #[inline(always)]
 fn store_at(
-    scene: &Scene<'_>,
-    state: &mut State,
+    scene: &StepContext<'_>,
+    state: &mut StepState,
     rows: &[Vec<u32>],
     paths: &[usize],
-    value: &Flat,
+    value: &FlatExpression,
     access: &Access,
-) -> Result<(), Stop>
+) -> Result<(), StepStop>
     requires scene { IsScene scene.now }
     requires ready { IsReadyState scene.now state.old }
     requires held { IsHeld scene.now.code.now.operations value.now }
@@ -530,13 +550,13 @@ fn store_at(
 /// Stores a value at each path in order.
 #[inline(never)]
 fn store_all(
-    scene: &Scene<'_>,
-    state: &mut State,
+    scene: &StepContext<'_>,
+    state: &mut StepState,
     rows: &[Vec<u32>],
     paths: &[usize],
-    value: &Flat,
+    value: &FlatExpression,
     access: &Access,
-) -> Result<(), Stop>
+) -> Result<(), StepStop>
     requires scene { IsScene scene.now }
     requires ready { IsReadyState scene.now state.old }
     requires held { IsHeld scene.now.code.now.operations value.now }
@@ -572,12 +592,12 @@ fn put_aside(
 
 /// Evaluates a test at each path in order, and puts the paths on one side or the other.
 fn part(
-    scene: &Scene<'_>,
-    state: &mut State,
+    scene: &StepContext<'_>,
+    state: &mut StepState,
     rows: &[Vec<u32>],
     paths: &[usize],
-    test: &Flat,
-) -> Result<(Vec<usize>, Vec<usize>), Stop>
+    test: &FlatExpression,
+) -> Result<(Vec<usize>, Vec<usize>), StepStop>
     requires scene { IsScene scene.now }
     requires ready { IsReadyState scene.now state.old }
     requires held { IsHeld scene.now.code.now.operations test.now }
@@ -605,14 +625,14 @@ fn either(holds: bool, chosen: Option<usize>, other: Option<usize>) -> Option<us
 /// Does an `if` at one path: its test, and then an arm.
 #[cycle(run)]
 fn choose_at(
-    scene: &Scene<'_>,
-    state: &mut State,
+    scene: &StepContext<'_>,
+    state: &mut StepState,
     rows: &[Vec<u32>],
     paths: &[usize],
-    test: &Flat,
+    test: &FlatExpression,
     chosen: Option<usize>,
     other: Option<usize>,
-) -> Result<(), Stop>
+) -> Result<(), StepStop>
     requires scene { IsScene scene.now }
     requires ready { IsReadyState scene.now state.old }
     requires held { IsHeld scene.now.code.now.operations test.now }
@@ -633,14 +653,14 @@ fn choose_at(
 /// Does an `if` at paths: its test at each, then the one arm where it holds, then the other.
 #[cycle(run)]
 fn choose(
-    scene: &Scene<'_>,
-    state: &mut State,
+    scene: &StepContext<'_>,
+    state: &mut StepState,
     rows: &[Vec<u32>],
     paths: &[usize],
-    test: &Flat,
+    test: &FlatExpression,
     chosen: Option<usize>,
     other: Option<usize>,
-) -> Result<(), Stop>
+) -> Result<(), StepStop>
     requires scene { IsScene scene.now }
     requires ready { IsReadyState scene.now state.old }
     requires held { IsHeld scene.now.code.now.operations test.now }
@@ -657,12 +677,12 @@ fn choose(
 /// Does a command at these paths.
 #[cycle(run)]
 fn run_one(
-    scene: &Scene<'_>,
-    state: &mut State,
+    scene: &StepContext<'_>,
+    state: &mut StepState,
     rows: &[Vec<u32>],
     paths: &[usize],
     action: &Action,
-) -> Result<(), Stop>
+) -> Result<(), StepStop>
     requires scene { IsScene scene.now }
     requires ready { IsReadyState scene.now state.old }
     requires done { CanBeDone scene.now action.now }
@@ -721,12 +741,12 @@ fn run_one(
 /// Does commands at these paths, each at all of them before the next one.
 #[cycle(run)]
 pub fn run(
-    scene: &Scene<'_>,
-    state: &mut State,
+    scene: &StepContext<'_>,
+    state: &mut StepState,
     rows: &[Vec<u32>],
     paths: &[usize],
     mut list: Option<usize>,
-) -> Result<(), Stop>
+) -> Result<(), StepStop>
     requires scene { IsScene scene.now }
     requires ready { IsReadyState scene.now state.old }
     ensures ready { IsReadyState scene.now state.new }
@@ -746,7 +766,7 @@ pub fn run(
 }
 
 /// Takes changes back, the last one first.
-pub fn undo(variables: &mut [u64], changes: &[Change])
+pub fn undo(variables: &mut [u64], changes: &[UndoEntry])
     ensures { variables.new ≡ undone_slots changes.now variables.old }
 {
     for i in (0..changes.len()).rev() {

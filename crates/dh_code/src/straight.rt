@@ -6,9 +6,9 @@ ghost use Rattle.dh_code.specs.States.{IsReadyState};
 ghost use Rattle.dh_code.specs.Underway.{RunSoFar};
 
 use crate::codes::Action;
-use crate::evaluating::Scene;
+use crate::evaluating::StepContext;
 use crate::operands::{slot, whole};
-use crate::running::{State, ranks_at, set_slot};
+use crate::running::{StepState, ranks_at, set_slot};
 use crate::worths::plain_value;
 
 /// Does the assignments at the beginning of a list, at a path that is alone, as far as their values
@@ -16,8 +16,8 @@ use crate::worths::plain_value;
 /// the assignment is left too.)
 #[inline(always)]
 pub fn assign_on(
-    scene: &Scene<'_>,
-    state: &mut State,
+    scene: &StepContext<'_>,
+    state: &mut StepState,
     rows: &[Vec<u32>],
     paths: &[usize],
     mut list: Option<usize>,

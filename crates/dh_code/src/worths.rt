@@ -8,14 +8,14 @@ ghost use Rattle.dh_code.specs.Scenes.{IsHeld, IsScene};
 ghost use Rattle.dh_code.specs.States.{IsReadyState, sight_in};
 ghost use Rattle.dh_code.specs.Worths.{IsGivenBy, IsSingleValue, IsWorth};
 
-use crate::codes::{Flat, Operand, Operation};
-use crate::evaluating::{Scene, combined_otherwise, operated};
+use crate::codes::{CodeOperation, FlatExpression, Operand};
+use crate::evaluating::{StepContext, combined_otherwise, operated};
 use crate::operands::{View, mask_at, value_at};
-use crate::running::State;
+use crate::running::StepState;
 use dh_value::{Op, Word};
 
 /// The value of an operand, as a state sees it at a path of these ranks.
-pub fn value_in(state: &State, ranks: &[u32], operand: &Operand) -> Word
+pub fn value_in(state: &StepState, ranks: &[u32], operand: &Operand) -> Word
     requires { IsValidOperand operand.now }
     ensures value { result ≡ operand_word (sight_in state.now ranks.now) operand.now }
     ensures word { IsWord result }
@@ -32,7 +32,7 @@ pub fn value_in(state: &State, ranks: &[u32], operand: &Operand) -> Word
 /// The bits of what any operator gives on two operands, as a state sees them at a path of these
 /// ranks.
 #[inline(never)]
-fn combined_apart(state: &State, ranks: &[u32], op: Op, left: &Operand, right: &Operand) -> u64
+fn combined_apart(state: &StepState, ranks: &[u32], op: Op, left: &Operand, right: &Operand) -> u64
     requires left { IsValidOperand left.now }
     requires right { IsValidOperand right.now }
     requires suits { Suits op (kind_of_operand left.now) (kind_of_operand right.now) }
@@ -53,7 +53,7 @@ fn combined_apart(state: &State, ranks: &[u32], op: Op, left: &Operand, right: &
 /// ranks. (What it takes and gives fits the registers of a call, and so does its work: operators that
 /// look at signs and widths stand apart.)
 #[inline(never)]
-fn combined_in(state: &State, ranks: &[u32], op: Op, left: &Operand, right: &Operand) -> u64
+fn combined_in(state: &StepState, ranks: &[u32], op: Op, left: &Operand, right: &Operand) -> u64
     requires left { IsValidOperand left.now }
     requires right { IsValidOperand right.now }
     requires suits { Suits op (kind_of_operand left.now) (kind_of_operand right.now) }
@@ -114,12 +114,12 @@ fn given_by(operand: &Operand, at: usize, given: u64) -> Option<Word>
 /// ranks; None of other operations, and of operands that are not what it gives.
 #[inline(always)]
 fn single_value(
-    _scene: &Scene<'_>,
-    state: &State,
+    _scene: &StepContext<'_>,
+    state: &StepState,
     ranks: &[u32],
     operand: &Operand,
     at: usize,
-    operation: &Operation,
+    operation: &CodeOperation,
 ) -> Option<Word>
     requires operation { IsOperation _scene.now.entries.now operation.now }
     requires operand { IsValidOperand operand.now }
@@ -128,19 +128,24 @@ fn single_value(
         result }
 {
     match operation {
-        Operation::Binary { op, left, right } => {
+        CodeOperation::Binary { op, left, right } => {
             let given = combined_in(state, ranks, *op, left, right);
             given_by(operand, at, given)
         }
-        Operation::Convert { .. } => None,
-        Operation::Read { .. } => None,
+        CodeOperation::Convert { .. } => None,
+        CodeOperation::Read { .. } => None,
     }
 }
 
 /// The value of an expression of one operator at most, as a state sees it at a path of these ranks;
 /// None of others. (Most expressions are such ones, and nothing of them has to be kept.)
 #[inline(always)]
-pub fn plain_value(scene: &Scene<'_>, state: &State, ranks: &[u32], value: &Flat) -> Option<Word>
+pub fn plain_value(
+    scene: &StepContext<'_>,
+    state: &StepState,
+    ranks: &[u32],
+    value: &FlatExpression,
+) -> Option<Word>
     requires scene { IsScene scene.now }
     requires ready { IsReadyState scene.now state.now }
     requires held { IsHeld scene.now.code.now.operations value.now }

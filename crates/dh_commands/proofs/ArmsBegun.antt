@@ -6,7 +6,7 @@ use Rattle.dh_value.specs.Words.{word_of}
 use Rattle.dh_tree.specs.declared.trees.counters.Counter.{Counter}
 use Rattle.dh_meaning.specs.Effects.{Effect, Variables}
 use Rattle.dh_meaning.specs.Paths.{Path}
-use Rattle.dh_code.specs.declared.places.Held.{Held}
+use Rattle.dh_code.specs.declared.places.VariableSlots.{VariableSlots}
 use Rattle.dh_code.specs.Slots.{held_at}
 use Rattle.dh_plan.proofs.SourceMoves.{and_left}
 use Rattle.dh_expressions.specs.declared.paths.Level.{Level}
@@ -28,7 +28,7 @@ module _ (scene : Scene) (around arm : Around) (x : BlockStep) (holds : Bool) (t
   pub seen_same : (e j : ℕ) → seen_path scene arm e j ≡ seen_path scene around e j
   seen_same e j = ap (λ (ls : List Level). take (depth_in scene e) (path_at ls j)) h.levels
 
-  pub shown_same : (o : Option Counter) (held : Held) (current : List (Option ℕ)) (kind : Kind) (j : ℕ) → shown_by x o held (lane_of arm j) current kind ≡ shown_by x o held (lane_of around j) current kind
+  pub shown_same : (o : Option Counter) (held : VariableSlots) (current : List (Option ℕ)) (kind : Kind) (j : ℕ) → shown_by x o held (lane_of arm j) current kind ≡ shown_by x o held (lane_of around j) current kind
   shown_same None held current kind j = ap (λ (ls : List Level). variable_shown x current (min (held.first + rank_number ls held.depth j) (2 ^ 64 - 1))) h.levels
   shown_same (Some c) held current kind j =
       ap (λ (ls : List Level). word_of kind (pos (c.low + slice_index x.start.registers held.first * c.factor + (if nat_le c.factor 1 then 0 else last_number ls held.depth j)))) h.levels

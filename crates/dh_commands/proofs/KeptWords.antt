@@ -11,7 +11,7 @@ use Rattle.dh_tree.specs.Seen.{factor_seen, view_plan, term_seen, terms}
 use Rattle.dh_tree.specs.ViewOffsets.{offsets_of}
 use Rattle.dh_meaning.specs.AccessNumbers.{term_accesses, terms_accesses}
 use Rattle.dh_meaning.specs.Ways.{Hidden}
-use Rattle.dh_code.specs.declared.places.Held.{Held}
+use Rattle.dh_code.specs.declared.places.VariableSlots.{VariableSlots}
 use Rattle.dh_code.specs.Slots.{held_at}
 use Rattle.dh_code.proofs.Ranges.{drop_past}
 use Rattle.dh_expressions.specs.declared.accesses.Accesses.{Accesses}
@@ -190,13 +190,13 @@ module _ (scene : Scene) where
       gives_then d e new v more (λ x. held_shown t (held_at scene.held.now n).kind (word_shown x value)) (λ x. held_words scene (suc n) ts (map (λ i. word_shown x i) values)) one rest
 
   -- one is held by the offset of its number, where that is there
-  pub hold_found : (n : ℕ) (o : Option plain.Term) (t : plain.Term) (h : Held) (value v : ℕ) (d e : Draft) → Some t ≡ o → h ≡ held_at scene.held.now n → Gives d e v (λ x. held_shown t h.kind (word_shown x value))
+  pub hold_found : (n : ℕ) (o : Option plain.Term) (t : plain.Term) (h : VariableSlots) (value v : ℕ) (d e : Draft) → Some t ≡ o → h ≡ held_at scene.held.now n → Gives d e v (λ x. held_shown t h.kind (word_shown x value))
       → Gives d e v (λ x. kept_shown scene n o (word_shown x value))
   hold_found n o t h value v d e is same g =
-      subst (λ (p : Option plain.Term). Gives d e v (λ x. kept_shown scene n p (word_shown x value))) is (subst (λ (k : Held). Gives d e v (λ x. held_shown t k.kind (word_shown x value))) same g)
+      subst (λ (p : Option plain.Term). Gives d e v (λ x. kept_shown scene n p (word_shown x value))) is (subst (λ (k : VariableSlots). Gives d e v (λ x. held_shown t k.kind (word_shown x value))) same g)
 
-  pub hold_made : (n : ℕ) (o : Option plain.Term) (t : plain.Term) (h : Held) (value v : ℕ) (d e : Draft) → Some t ≡ o → h ≡ held_at scene.held.now n → MadeHeld t h.kind value d e v → MadeHold scene n o value d e v
-  hold_made n o t h value v d e is same m = subst (λ (p : Option plain.Term). MadeHold scene n p value d e v) is (subst (λ (k : Held). MadeHeld t k.kind value d e v) same m)
+  pub hold_made : (n : ℕ) (o : Option plain.Term) (t : plain.Term) (h : VariableSlots) (value v : ℕ) (d e : Draft) → Some t ≡ o → h ≡ held_at scene.held.now n → MadeHeld t h.kind value d e v → MadeHold scene n o value d e v
+  hold_made n o t h value v d e is same m = subst (λ (p : Option plain.Term). MadeHold scene n p value d e v) is (subst (λ (k : VariableSlots). MadeHeld t k.kind value d e v) same m)
 
   pub hold_nowhere : (n : ℕ) (o : Option plain.Term) (value : ℕ) (d : Draft) → None ≡ o → Gives d d value (λ x. kept_shown scene n o (word_shown x value))
   hold_nowhere n o value d is = subst (λ (p : Option plain.Term). Gives d d value (λ x. kept_shown scene n p (word_shown x value))) is (gives_still d value)

@@ -8,7 +8,7 @@ use Rattle.dh_value.specs.declared.words.Word.{Word}
 use Rattle.dh_value.specs.Operations.{binary_of}
 use Rattle.dh_tree.specs.PlainTrees as plain
 use Rattle.dh_meaning.specs.Bindings.{kind_found}
-use Rattle.dh_code.specs.declared.places.Held.{Held}
+use Rattle.dh_code.specs.declared.places.VariableSlots.{VariableSlots}
 use Rattle.dh_code.specs.Extended.{extension_of}
 use Rattle.dh_tree.specs.Kinds.{same_kind}
 use Rattle.dh_code.specs.Slots.{held_at}
@@ -29,7 +29,7 @@ gives_then a b c u v first make g h = record {
   quiet = λ x f s. h.quiet x f (begun_later a b x g.extends s) ∙ g.quiet x (fits_before b c x h.extends f) s;
 }
 
-pub reduced_made : (scene : Scene) (lane : Lane) (current : List (Option ℕ)) (d0 d1 d2 d3 d4 d5 : Draft) (old left right all made own entity : ℕ) (op : Op) (t : plain.Term) (h : Held) (register : ℕ) (to : Kind) (same : Bool)
+pub reduced_made : (scene : Scene) (lane : Lane) (current : List (Option ℕ)) (d0 d1 d2 d3 d4 d5 : Draft) (old left right all made own entity : ℕ) (op : Op) (t : plain.Term) (h : VariableSlots) (register : ℕ) (to : Kind) (same : Bool)
     → h ≡ held_at scene.held.now entity → register ≡ register_at h lane → to ≡ extension_of op h.kind (kind_found t) → same ≡ same_kind h.kind to
     → Gives d0 d1 old (λ x. variable_shown x current register) → Gives d1 d2 left (λ x. old_extended h.kind to (word_shown x old)) → Gives d2 d3 right (λ x. extended_shown t to (word_shown x own))
     → Computes d3 d4 all (λ x. binary_of op (word_shown x left) (word_shown x right)) → Gives d4 d5 made (λ x. in_own_kind same h.kind (word_shown x all))
@@ -41,7 +41,7 @@ reduced_made scene lane current d0 d1 d2 d3 d4 d5 old left right all made own en
     (gives_then d0 d1 d2 old left (λ x. variable_shown x current register) (λ w. old_extended h.kind to w) first one) other both)
     last)
   where
-    whole : BlockStep → Held → ℕ → Kind → Bool → Word
+    whole : BlockStep → VariableSlots → ℕ → Kind → Bool → Word
     whole x i r k s = in_own_kind s i.kind (binary_of op (old_extended i.kind k (variable_shown x current r)) (extended_shown t k (word_shown x own)))
 
     told_so : (x : BlockStep) → whole x h register to same
@@ -50,4 +50,4 @@ reduced_made scene lane current d0 d1 d2 d3 d4 d5 old left right all made own en
         ap (λ (s : Bool). whole x h register to s) same_is
         ∙ (ap (λ (k : Kind). whole x h register k (same_kind h.kind k)) to_is
         ∙ (ap (λ (r : ℕ). whole x h r (extension_of op h.kind (kind_found t)) (same_kind h.kind (extension_of op h.kind (kind_found t)))) register_is
-        ∙ ap (λ (i : Held). whole x i (register_at i lane) (extension_of op i.kind (kind_found t)) (same_kind i.kind (extension_of op i.kind (kind_found t)))) held_is))
+        ∙ ap (λ (i : VariableSlots). whole x i (register_at i lane) (extension_of op i.kind (kind_found t)) (same_kind i.kind (extension_of op i.kind (kind_found t)))) held_is))

@@ -9,7 +9,7 @@ use Rattle.dh_value.specs.Words.{word_of}
 use Rattle.dh_tree.specs.declared.trees.counters.Counter.{Counter}
 use Rattle.dh_meaning.specs.Effects.{Variables, set_variable}
 use Rattle.dh_meaning.specs.Paths.{same_path}
-use Rattle.dh_code.specs.declared.places.Held.{Held}
+use Rattle.dh_code.specs.declared.places.VariableSlots.{VariableSlots}
 use Rattle.dh_code.specs.Slots.{held_at}
 use Rattle.dh_plan.specs.Blocks.{is_on}
 use Rattle.dh_plan.proofs.SourceMoves.{same_is, same_self}
@@ -24,7 +24,7 @@ use Rattle.dh_commands.specs.LanesRun.{is_on_at, lane_of, paths_counted}
 use Rattle.dh_commands.specs.ShownVariables.{IsSeen, IsSetTarget, ShowsVariables, ShowsVariableAt, register_in, seen_path}
 
 -- what is shown of a variable follows from what its register shows
-pub shown_alike : (x : BlockStep) (o : Option Counter) (held : Held) (lane : Lane) (current more : List (Option ℕ)) (kind : Kind) → variable_shown x more (register_at held lane) ≡ variable_shown x current (register_at held lane)
+pub shown_alike : (x : BlockStep) (o : Option Counter) (held : VariableSlots) (lane : Lane) (current more : List (Option ℕ)) (kind : Kind) → variable_shown x more (register_at held lane) ≡ variable_shown x current (register_at held lane)
     → shown_by x o held lane more kind ≡ shown_by x o held lane current kind
 shown_alike x None held lane current more kind same = same
 shown_alike x (Some c) held lane current more kind same = refl

@@ -18,7 +18,7 @@ use Rattle.dh_meaning.specs.Effects.{entry_kind}
 use Rattle.dh_meaning.specs.Ways.{Hidden, hidden_in}
 use Rattle.dh_code.specs.Extended.{extension_of}
 use Rattle.dh_tree.specs.Kinds.{same_kind}
-use Rattle.dh_code.specs.declared.places.Held.{Held}
+use Rattle.dh_code.specs.declared.places.VariableSlots.{VariableSlots}
 use Rattle.dh_code.specs.Slots.{held_at}
 use Rattle.dh_plan.specs.declared.operations.OperationForm.TheVariants.{Compute, Constant, Select}
 use Rattle.dh_phases.specs.Counted.{behind}
@@ -72,7 +72,7 @@ MadeOperand t (kind.Unsigned m) value old new v = MadeHeld t (kind.Unsigned m) v
 MadeOperand t (kind.Signed m) value old new v = MadeHeld t (kind.Signed m) value old new v
 
 -- what a reducer puts together, as its variable holds it
-pub record FoldedWith (lane : Lane) (current : List (Option ℕ)) (held : Held) (op : Op) (t : plain.Term) (value : ℕ) (old new : Draft) (v : ℕ) : Type 0 where
+pub record FoldedWith (lane : Lane) (current : List (Option ℕ)) (held : VariableSlots) (op : Op) (t : plain.Term) (value : ℕ) (old new : Draft) (v : ℕ) : Type 0 where
   pub first : Draft
   pub second : Draft
   pub third : Draft

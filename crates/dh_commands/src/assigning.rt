@@ -14,7 +14,7 @@ ghost use Rattle.dh_commands.specs.MadeCommands.{AssignedTo, ClearedTo, MadeAssi
 use crate::assignments::{Values, assign};
 use crate::buildings::Building;
 use dh_base::NoMemory;
-use dh_code::{Held, extension, is_same, kind_found, literal, place_of};
+use dh_code::{VariableSlots, extension, is_same, kind_found, literal, place_of};
 use dh_expressions::{
     Around, Draft, Lane, Scene, push_compute, push_constant, push_convert, push_held, push_shown,
     push_term, slot_at,

@@ -15,8 +15,8 @@ use Rattle.dh_lower.specs.NetOfPlan.{Making}
 use Rattle.dh_lower.specs.PortUsers.{is_among}
 use Rattle.dh_control.specs.declared.controlling.Activity.{Activity}
 use Rattle.dh_control.specs.declared.controlling.Control.{Control}
-use Rattle.dh_control.specs.declared.controlling.Outcome.{Outcome}
-use Rattle.dh_control.specs.declared.controlling.Own.{Own}
+use Rattle.dh_control.specs.declared.controlling.StepOutcome.{StepOutcome}
+use Rattle.dh_control.specs.declared.controlling.ControlRegisters.{ControlRegisters}
 use Rattle.dh_control.specs.declared.controlling.Results.{Results}
 use Rattle.dh_control.specs.declared.stepping.Nexts.{Nexts}
 use Rattle.dh_control.specs.AllBlocks.{AreBlockWords, blocks_set, blocks_code, state_ways, graph_way_at}
@@ -44,8 +44,8 @@ only_wire : (x : Signals) (wires : List ℕ) (v : ℕ) → shown_all x wires ≡
 only_wire x [] v e = absurd (let f = ap (λ l. length l) e in omega (arith, f))
 only_wire x (w ∷ ws) v e = ap (λ l. slice_index l 0) e
 
-module _ (d e f g h i : PlainCircuit) (own : Own) (widths registers wires : List ℕ) (blocks : List PlanBlock) (states : List State) (lengths : List ℕ)
-    (a : Activity) (o : Outcome) (after : List ℕ) (r : Results) (n : Nexts) (active commits : List ℕ) (each : length lengths ≡ length blocks)
+module _ (d e f g h i : PlainCircuit) (own : ControlRegisters) (widths registers wires : List ℕ) (blocks : List PlanBlock) (states : List State) (lengths : List ℕ)
+    (a : Activity) (o : StepOutcome) (after : List ℕ) (r : Results) (n : Nexts) (active commits : List ℕ) (each : length lengths ≡ length blocks)
     (same_active : active ≡ a.active) (same_commits : commits ≡ o.commits)
     (p : ActivityMade d e own.state (map (λ s. s.block) states) (length blocks) a) (q0 : OutcomeMade e f own.clock active lengths wires blocks o)
     (t0 : AfterMade f g widths registers commits wires blocks after) (u : ResultsMade g h widths after own.state_width own.state o.verdict states r)

@@ -11,7 +11,7 @@ use Rattle.dh_cells.specs.Settled.{Signals, IsSettled, Grows, IsWire, AreWires, 
 use Rattle.dh_cells.specs.ShownValues.{is_one, any_one}
 use Rattle.dh_lower.specs.PortUsers.{is_among}
 use Rattle.dh_control.specs.declared.controlling.Activity.{Activity}
-use Rattle.dh_control.specs.declared.controlling.Outcome.{Outcome}
+use Rattle.dh_control.specs.declared.controlling.StepOutcome.{StepOutcome}
 use Rattle.dh_control.specs.declared.controlling.Results.{Results}
 use Rattle.dh_control.specs.declared.stepping.Verdict.{Verdict}
 use Rattle.dh_control.specs.AllBlocks.{BlockWords, AreBlockWords, blocks_set, blocks_code, state_ways, graph_way_at}
@@ -29,7 +29,7 @@ pub record ActivityMade (old new : PlainCircuit) (state : ℕ) (blocks : List �
   pub active_is : (x : Signals) (b : ℕ) → IsSettled new x → b < count → is_one x (slice_index a.active b) ≡ is_among b (blocks_active blocks (shown x state))
 
 -- what becomes of a step
-pub record OutcomeMade (old new : PlainCircuit) (clock : ℕ) (active lengths wires : List ℕ) (blocks : List PlanBlock) (o : Outcome) : Type 0 where
+pub record OutcomeMade (old new : PlainCircuit) (clock : ℕ) (active lengths wires : List ℕ) (blocks : List PlanBlock) (o : StepOutcome) : Type 0 where
   pub grows : Grows old new
   pub going : IsWire new o.pace.going 1
   pub waiting : IsWire new o.pace.waiting 1

@@ -8,21 +8,21 @@ use Rattle.dh_cells.specs.PlainCircuits.{PlainCircuit}
 use Rattle.dh_cells.specs.Settled.{Signals, IsSettled, Grows, IsWire, AreWires, shown}
 use Rattle.dh_lower.specs.NetOfPlan.{Making}
 use Rattle.dh_control.specs.declared.controlling.Control.{Control}
-use Rattle.dh_control.specs.declared.controlling.Own.{Own}
+use Rattle.dh_control.specs.declared.controlling.ControlRegisters.{ControlRegisters}
 use Rattle.dh_control.specs.AllBlocks.{AreBlockWords, state_ways}
 use Rattle.dh_control.specs.SizedWires.{WiresAreSized, shown_all}
 use Rattle.dh_control.specs.ThreadHolds.{own_registers, ControlWires, ControlShows, shown_blocks, state_blocks}
 use Rattle.dh_control.specs.WayMoves.{HoldsStates}
 
 -- the wires of the control's own registers
-pub record OwnWires (d : PlainCircuit) (own : Own) (states : ℕ) : Type 0 where
+pub record OwnWires (d : PlainCircuit) (own : ControlRegisters) (states : ℕ) : Type 0 where
   pub clock_wire : IsWire d own.clock own.clock_width
   pub fault_wire : IsWire d own.fault 32
   pub state_wire : IsWire d own.state own.state_width
   pub holds : HoldsStates own.state_width states
 
 -- they show the first registers of the net, and other wires those of the plan
-pub record OwnShown (own : Own) (registers : List ℕ) (x : Signals) : Type 0 where
+pub record OwnShown (own : ControlRegisters) (registers : List ℕ) (x : Signals) : Type 0 where
   pub clock_is : shown x own.clock ≡ slice_index x.registers 0
   pub tick_is : shown x own.tick ≡ slice_index x.registers 1
   pub fault_is : shown x own.fault ≡ slice_index x.registers 2
@@ -37,7 +37,7 @@ pub record AreOfMaking (k : Making) (widths : List ℕ) (blocks : List PlanBlock
   pub state_blocks_are : map (λ s. s.block) states ≡ state_blocks k
   pub ways_are : state_ways states ≡ map (λ s. s.way) k.flow.states
 
-abbrev pub control_wires : Own → (registers : List ℕ) → Control → ControlWires
+abbrev pub control_wires : ControlRegisters → (registers : List ℕ) → Control → ControlWires
 control_wires own registers c = record {
   clock_width = own.clock_width;
   clock = own.clock;
@@ -56,7 +56,7 @@ control_wires own registers c = record {
 }
 
 -- the control was added: its wires are there, and it shows what it does of every making of these parts
-pub record ControlMade (old new : PlainCircuit) (own : Own) (widths registers wires : List ℕ) (blocks : List PlanBlock) (states : List State) (lengths : List ℕ) (c : Control) : Type 0 where
+pub record ControlMade (old new : PlainCircuit) (own : ControlRegisters) (widths registers wires : List ℕ) (blocks : List PlanBlock) (states : List State) (lengths : List ℕ) (c : Control) : Type 0 where
   pub grows : Grows old new
   pub active_wires : AreWires new c.activity.active 1
   pub active_long : length c.activity.active ≡ length blocks

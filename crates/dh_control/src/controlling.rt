@@ -33,7 +33,7 @@ pub struct Activity {
 
 /// What becomes of a step, by wires.
 #[derive(Drop)]
-pub struct Outcome {
+pub struct StepOutcome {
     /// Whether it ends in this clock.
     pub pace: Pace,
     /// What comes of it.
@@ -80,7 +80,7 @@ pub fn push_outcome(
     lengths: &[u64],
     wires: &[u64],
     blocks: &[PlanBlock],
-) -> Result<Outcome, NoMemory>
+) -> Result<StepOutcome, NoMemory>
     requires clock { IsWire circuit.old clock width }
     requires active { AreWires circuit.old active.now 1 }
     requires each { length active.now ≡ length blocks.now }
@@ -95,7 +95,7 @@ pub fn push_outcome(
     let pace = push_pace(alloc, circuit, width, clock, active, lengths)?;
     let verdict = push_verdict(circuit, pace.last, tests.as_slice())?;
     let commits = push_each(alloc, circuit, verdict.commit, active)?;
-    Ok(Outcome {
+    Ok(StepOutcome {
         pace,
         verdict,
         commits,
@@ -172,7 +172,7 @@ pub fn push_results(
 
 /// The registers of the control's own, by wires that show them, with their widths.
 #[derive(Clone, Copy)]
-pub struct Own {
+pub struct ControlRegisters {
     /// Bits of the clock of the step.
     pub clock_width: u8,
     /// The clock of the step, from 0.
@@ -193,7 +193,7 @@ pub struct Control {
     /// Where the graph stands.
     pub activity: Activity,
     /// What becomes of the step.
-    pub outcome: Outcome,
+    pub outcome: StepOutcome,
     /// The registers of the plan after sets.
     pub after: Items<u64>,
     /// What the registers are after the clock.
@@ -206,7 +206,7 @@ pub struct Control {
 pub fn push_control(
     alloc: Global,
     circuit: &mut Circuit,
-    own: Own,
+    own: ControlRegisters,
     widths: &[u8],
     registers: &[u64],
     wires: &[u64],

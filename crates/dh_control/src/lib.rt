@@ -18,7 +18,7 @@ mod standing;
 mod stepping;
 mod testing;
 
-pub use controlling::{Activity, Control, Outcome, Own, Results, push_control};
+pub use controlling::{Activity, Control, ControlRegisters, Results, StepOutcome, push_control};
 pub use driving::{Asking, MemoryPorts, Times, push_block_uses};
 pub use gathering::{Keyed, gather};
 pub use laws::{plans_have_users, wired_nets_are_nets};

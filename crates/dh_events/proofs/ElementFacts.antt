@@ -4,7 +4,7 @@ use Rattle.std.specs.Prelude.{Option, Some, None}
 use Rattle.dh_tree.specs.PlainTrees.{Term, term, TermForm, number, truth_value, named, accessed, in_bank, applied, converted, Terms, no_terms, term_then}
 use Rattle.dh_meets.specs.SourceEvents.{Element, with_indices, in_row}
 use Rattle.dh_events.specs.declared.structures.Structure.{Structure}
-use Rattle.dh_events.specs.declared.structures.Sort.{Sort}
+use Rattle.dh_events.specs.declared.structures.MaybeKind.{MaybeKind}
 use Rattle.dh_events.specs.declared.events.Event.{Event}
 use Rattle.dh_events.specs.declared.events.Event.TheVariants as event
 use Rattle.dh_events.specs.Structures.{Describes, DescribesForm, DescribesFrom, DescribesElement, ExtendsStructures}
@@ -21,7 +21,7 @@ module _ (old new : List Structure) (more : ExtendsStructures old new) where
     pub describes_still : (n : ℕ) (t : Term) → Describes old n t → Describes new n t
     describes_still n (term place k f) d = form_still n _ f d
 
-    form_still : (n : ℕ) (s : Sort) (f : TermForm) → DescribesForm old n s f → DescribesForm new n s f
+    form_still : (n : ℕ) (s : MaybeKind) (f : TermForm) → DescribesForm old n s f → DescribesForm new n s f
     form_still n s (number negative value) d = more n _ d
     form_still n s (truth_value value) d = more n _ d
     form_still n s (named r) (e, (h, d)) = (e, (h, more n _ d))

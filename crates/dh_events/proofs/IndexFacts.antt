@@ -3,7 +3,7 @@ use Rattle.std.proofs.Common.{◌≡◌, ℕ, List, max, refl, ap, sym, ◌∙�
 use Rattle.std.specs.Prelude.{Option, Some, None, option_map}
 use Rattle.dh_tree.specs.PlainTrees.{Term, Terms, no_terms, term_then}
 use Rattle.dh_events.specs.declared.structures.Structure.{Structure}
-use Rattle.dh_events.specs.declared.structures.Sort.TheVariants as sort
+use Rattle.dh_events.specs.declared.structures.MaybeKind.TheVariants as sort
 use Rattle.dh_events.specs.declared.structures.Form.TheVariants as form
 use Rattle.dh_events.specs.declared.known.Known.{Known}
 use Rattle.dh_events.specs.Structures.{StructureStands, Describes, DescribesFrom, DescribesAll, IsNameless, AnyNameless, newest_in, newest_behind}

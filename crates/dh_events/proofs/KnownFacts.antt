@@ -9,8 +9,8 @@ use Rattle.dh_tree.specs.PlainTrees.{Term, term, TermForm, number, truth_value, 
 use Rattle.dh_meets.specs.Sharing.{number_of_op}
 use Rattle.dh_meets.specs.SourceEvents.{in_row}
 use Rattle.dh_events.specs.declared.structures.Structure.{Structure}
-use Rattle.dh_events.specs.declared.structures.Sort.{Sort}
-use Rattle.dh_events.specs.declared.structures.Sort.TheVariants as sort
+use Rattle.dh_events.specs.declared.structures.MaybeKind.{MaybeKind}
+use Rattle.dh_events.specs.declared.structures.MaybeKind.TheVariants as sort
 use Rattle.dh_events.specs.declared.structures.Form.{Form}
 use Rattle.dh_events.specs.declared.structures.Form.TheVariants as form
 use Rattle.dh_events.specs.declared.known.Known.{Known}
@@ -22,10 +22,10 @@ use Rattle.dh_events.proofs.ElementFacts.{describes_still, from_still}
 absurd : {A : Type 0} → ⊥ → A
 absurd e = elim e [ ]
 
-at_sort : (known : List Structure) (n : ℕ) (s s1 : Sort) (f : Form) → s ≡ s1 → StructureStands known n s f → StructureStands known n s1 f
-at_sort known n s s1 f e d = subst (λ (x : Sort). StructureStands known n x f) e d
+at_sort : (known : List Structure) (n : ℕ) (s s1 : MaybeKind) (f : Form) → s ≡ s1 → StructureStands known n s f → StructureStands known n s1 f
+at_sort known n s s1 f e d = subst (λ (x : MaybeKind). StructureStands known n x f) e d
 
-module _ (old new : List Structure) (s : Sort) where
+module _ (old new : List Structure) (s : MaybeKind) where
   pub number_made : (negative : Bool) (value : ℕ) (k : Known) → MakesFrom old new s (Some (form.Number negative value)) 0 k → MakesNumber old new s negative value k
   number_made negative value k m = record { extends = m.extends; known = λ clocks place j e. record { number = told k.structure place j e m.made; newest = m.same } }
     where

@@ -5,17 +5,17 @@ use Rattle.std.specs.Option.{option_eq}
 use mathlib.Core.Bool.{beq}
 use Rattle.std.proofs.lemmas.Bool.{eqb-true, eq-eqb}
 use Rattle.dh_events.specs.declared.structures.Structure.{Structure}
-use Rattle.dh_events.specs.declared.structures.Sort.{Sort}
-use Rattle.dh_events.specs.declared.structures.Sort.TheVariants as sort
+use Rattle.dh_events.specs.declared.structures.MaybeKind.{MaybeKind}
+use Rattle.dh_events.specs.declared.structures.MaybeKind.TheVariants as sort
 use Rattle.dh_events.specs.declared.structures.Form.{Form}
 use Rattle.dh_events.specs.declared.structures.Form.TheVariants as form
-use Rattle.dh_events.specs.contracts.structures.SortPartialEq.TheImpl as sorts
+use Rattle.dh_events.specs.contracts.structures.MaybeKindPartialEq.TheImpl as sorts
 use Rattle.dh_events.specs.contracts.structures.FormPartialEq.TheImpl as forms
 use Rattle.dh_events.specs.contracts.structures.StructurePartialEq.TheImpl as structures
 use Rattle.dh_events.specs.Structures.{structure}
 use Rattle.dh_events.proofs.KeyFacts.{both, all_both}
 
-abbrev equal_sorts : Sort → Sort → Bool
+abbrev equal_sorts : MaybeKind → MaybeKind → Bool
 equal_sorts s t = sorts.ghosts.eq s t
 
 abbrev equal_forms : Form → Form → Bool
@@ -44,13 +44,13 @@ same_number None (Some n) e = cc
 same_number (Some m) None e = cc
 same_number (Some m) (Some n) e = ap Some (eqb-true m n e)
 
-own_sort : (s : Sort) → equal_sorts s s ≡ true
+own_sort : (s : MaybeKind) → equal_sorts s s ≡ true
 own_sort sort.Unknown = refl
 own_sort sort.Truth = refl
 own_sort (sort.Unsigned n) = eq-eqb n n refl
 own_sort (sort.Signed n) = eq-eqb n n refl
 
-same_sort : (s t : Sort) → equal_sorts s t ≡ true → s ≡ t
+same_sort : (s t : MaybeKind) → equal_sorts s t ≡ true → s ≡ t
 same_sort sort.Unknown sort.Unknown e = refl
 same_sort sort.Truth sort.Truth e = refl
 same_sort (sort.Unsigned m) (sort.Unsigned n) e = ap (λ x. sort.Unsigned x) (eqb-true m n e)

@@ -6,25 +6,25 @@ use Rattle.dh_value.specs.declared.kinds.Kind.{Kind}
 use Rattle.dh_value.specs.declared.kinds.Kind.TheVariants as kind
 use Rattle.dh_tree.specs.Kinds.{same_kind}
 use Rattle.dh_events.specs.declared.structures.Structure.{Structure}
-use Rattle.dh_events.specs.declared.structures.Sort.{Sort}
+use Rattle.dh_events.specs.declared.structures.MaybeKind.{MaybeKind}
 use Rattle.dh_events.specs.declared.structures.Form.{Form}
 use Rattle.dh_events.specs.Structures.{kind_sort, structure, StructureStands, StructuresAreDistinct}
 
 -- of one number one sort and one form are told
-pub one_sort : (known : List Structure) (n : ℕ) (s t : Sort) (f g : Form) → StructureStands known n s f → StructureStands known n t g → s ≡ t
+pub one_sort : (known : List Structure) (n : ℕ) (s t : MaybeKind) (f g : Form) → StructureStands known n s f → StructureStands known n t g → s ≡ t
 one_sort known n s t f g d e = let both : Some (structure s f) ≡ Some (structure t g) = sym d ∙ e in ap (λ (x : Structure). x.sort) (some_is _ _ both)
   where
     some_is : (x y : Structure) → Some x ≡ Some y → x ≡ y
     some_is x y e = cc
 
-pub one_form : (known : List Structure) (n : ℕ) (s t : Sort) (f g : Form) → StructureStands known n s f → StructureStands known n t g → f ≡ g
+pub one_form : (known : List Structure) (n : ℕ) (s t : MaybeKind) (f g : Form) → StructureStands known n s f → StructureStands known n t g → f ≡ g
 one_form known n s t f g d e = let both : Some (structure s f) ≡ Some (structure t g) = sym d ∙ e in ap (λ (x : Structure). x.form) (some_is _ _ both)
   where
     some_is : (x y : Structure) → Some x ≡ Some y → x ≡ y
     some_is x y e = cc
 
 -- and one number of one structure
-pub one_number : (known : List Structure) → StructuresAreDistinct known → (m n : ℕ) (s t : Sort) (f g : Form) → s ≡ t → f ≡ g → StructureStands known m s f → StructureStands known n t g → m ≡ n
+pub one_number : (known : List Structure) → StructuresAreDistinct known → (m n : ℕ) (s t : MaybeKind) (f g : Form) → s ≡ t → f ≡ g → StructureStands known m s f → StructureStands known n t g → m ≡ n
 one_number known distinct m n s t f g e h d i = distinct m n (structure t g) (d ∙ (ap (λ x. Some (structure x f)) e ∙ ap (λ x. Some (structure t x)) h)) i
 
 -- kinds are one where their sorts are

@@ -10,7 +10,7 @@ use Rattle.dh_tree.specs.PlainTrees.{Term, term, TermForm, number, truth_value, 
 use Rattle.dh_tree.specs.Seen.{term_seen}
 use Rattle.dh_meets.specs.SourceEvents.{Element, with_indices, in_row}
 use Rattle.dh_events.specs.declared.structures.Structure.{Structure}
-use Rattle.dh_events.specs.declared.structures.Sort.{Sort}
+use Rattle.dh_events.specs.declared.structures.MaybeKind.{MaybeKind}
 use Rattle.dh_events.specs.declared.structures.Form.{Form}
 use Rattle.dh_events.specs.declared.events.Event.{Event}
 use Rattle.dh_events.specs.declared.events.Event.TheVariants as event
@@ -152,40 +152,40 @@ both_known (Some l) (Some r) form = Some (form l r)
 -- What is known of what is made of parts.
 
 -- there is a number where there is a form
-abbrev pub FormIsNumbered : List Structure → Sort → Option Form → Option ℕ → Type 0
+abbrev pub FormIsNumbered : List Structure → MaybeKind → Option Form → Option ℕ → Type 0
 FormIsNumbered known s None None = Unit {0}
 FormIsNumbered known s None (Some n) = ⊥
 FormIsNumbered known s (Some f) None = ⊥
 FormIsNumbered known s (Some f) (Some n) = StructureStands known n s f
 
-pub record MakesFrom (old new : List Structure) (s : Sort) (f : Option Form) (newest : ℕ) (k : Known) : Type 0 where
+pub record MakesFrom (old new : List Structure) (s : MaybeKind) (f : Option Form) (newest : ℕ) (k : Known) : Type 0 where
   pub extends : ExtendsStructures old new
   pub made : FormIsNumbered new s f k.structure
   pub same : k.newest ≡ newest
 
-pub record MakesNumber (old new : List Structure) (s : Sort) (negative : Bool) (value : ℕ) (k : Known) : Type 0 where
+pub record MakesNumber (old new : List Structure) (s : MaybeKind) (negative : Bool) (value : ℕ) (k : Known) : Type 0 where
   pub extends : ExtendsStructures old new
   pub known : (clocks : ℕ → ℕ) (place : Place) (j : Option Kind) → s ≡ sort_found j → IsKnown new clocks (term place j (number negative value)) k
 
-pub record MakesTruth (old new : List Structure) (s : Sort) (value : Bool) (k : Known) : Type 0 where
+pub record MakesTruth (old new : List Structure) (s : MaybeKind) (value : Bool) (k : Known) : Type 0 where
   pub extends : ExtendsStructures old new
   pub known : (clocks : ℕ → ℕ) (place : Place) (j : Option Kind) → s ≡ sort_found j → IsKnown new clocks (term place j (truth_value value)) k
 
-pub record MakesVariable (old new : List Structure) (clocks : ℕ → ℕ) (s : Sort) (entity : Option ℕ) (k : Known) : Type 0 where
+pub record MakesVariable (old new : List Structure) (clocks : ℕ → ℕ) (s : MaybeKind) (entity : Option ℕ) (k : Known) : Type 0 where
   pub extends : ExtendsStructures old new
   pub known : (place : Place) (j : Option Kind) (r : Ref) → s ≡ sort_found j → r.entity ≡ entity → IsKnown new clocks (term place j (named r)) k
 
-pub record MakesRead (old new : List Structure) (s : Sort) (entity : Option ℕ) (element k : Known) : Type 0 where
+pub record MakesRead (old new : List Structure) (s : MaybeKind) (entity : Option ℕ) (element k : Known) : Type 0 where
   pub extends : ExtendsStructures old new
   pub known : (clocks : ℕ → ℕ) (place : Place) (j : Option Kind) (f : TermForm) → s ≡ sort_found j → entity_in f ≡ entity → FormIsAccess f
       → IsElement old clocks (element_in f) element.structure element.newest → IsKnown new clocks (term place j f) k
 
-pub record MakesOperation (old new : List Structure) (s : Sort) (o : Op) (left right k : Known) : Type 0 where
+pub record MakesOperation (old new : List Structure) (s : MaybeKind) (o : Op) (left right k : Known) : Type 0 where
   pub extends : ExtendsStructures old new
   pub known : (clocks : ℕ → ℕ) (place : Place) (j : Option Kind) (t u : Term) → s ≡ sort_found j → IsKnown old clocks t left → IsKnown old clocks u right
       → IsKnown new clocks (term place j (applied o t u)) k
 
-pub record MakesCast (old new : List Structure) (s : Sort) (to : Kind) (inner k : Known) : Type 0 where
+pub record MakesCast (old new : List Structure) (s : MaybeKind) (to : Kind) (inner k : Known) : Type 0 where
   pub extends : ExtendsStructures old new
   pub known : (clocks : ℕ → ℕ) (place : Place) (j : Option Kind) (t : Term) → s ≡ sort_found j → IsKnown old clocks t inner → IsKnown new clocks (term place j (converted t to)) k
 

@@ -12,7 +12,7 @@ use Rattle.dh_events.specs.declared.events.Event.{Event}
 use Rattle.dh_events.specs.declared.events.Event.TheVariants as event
 use Rattle.dh_events.specs.declared.events.Notes.{Notes}
 use Rattle.dh_events.specs.declared.events.Site.{Site}
-use Rattle.dh_events.specs.declared.noting.Around.{Around}
+use Rattle.dh_events.specs.declared.noting.NotingContext.{NotingContext}
 use Rattle.dh_events.specs.declared.noting.Open.{Open}
 use Rattle.dh_events.specs.Incidents.{PortEvent, touches, assigned, arm_begins, arm_ends, begins, next, ends, site_at, is_stepped, tested, inside_choice, when_parted, has_other, arms_part, term_incidents, terms_incidents, maybe_incidents, target_incidents, incidents, command_incidents, open_after, form_open, combine_incidents, open_combine, groups_incidents, groups_open, closed, open_at}
 use Rattle.dh_events.specs.Tables.{table_at}
@@ -86,25 +86,25 @@ abbrev pub view_opened_by : Open → (phase : ℕ) → ViewForm → Open
 view_opened_by behind phase form = if moves (view_plan form) then open_at (Some phase) else behind
 
 -- how many phases each command has, as the walk knows it
-abbrev pub stages_known : Around → ℕ → ℕ
+abbrev pub stages_known : NotingContext → ℕ → ℕ
 stages_known around = table_at around.stages.now
 
-abbrev pub command_done_by : Around → Open → Command → List PortEvent
+abbrev pub command_done_by : NotingContext → Open → Command → List PortEvent
 command_done_by around behind c = incidents (stages_known around) around.round behind (action_seen c)
 
-abbrev pub opened_by : Around → Open → Command → Open
+abbrev pub opened_by : NotingContext → Open → Command → Open
 opened_by around behind c = open_after (stages_known around) behind (action_seen c)
 
 -- what happens in a command that may lack
-abbrev pub given_done_by : Around → Open → Option (Box Command) → List PortEvent
+abbrev pub given_done_by : NotingContext → Open → Option (Box Command) → List PortEvent
 given_done_by around behind command = combine_incidents (stages_known around) around.round behind (maybe_block_seen command)
 
 -- what is told before the first arm of an `if`, between its arms and behind them; and what is open in the arms
-abbrev pub arms_begun_by : Around → Open → (id : ℕ) → Expr → Option (Box Command) → List PortEvent
+abbrev pub arms_begun_by : NotingContext → Open → (id : ℕ) → Expr → Option (Box Command) → List PortEvent
 arms_begun_by around behind id test other =
     read_by (site_at (tested (is_stepped (stages_known around) id) behind id) around.round) test ++ (when_parted (arms_part around.round (maybe_block_seen other)) begins ++ arm_begins ∷ [])
 
-abbrev pub arms_opened_by : Around → Open → (id : ℕ) → Open
+abbrev pub arms_opened_by : NotingContext → Open → (id : ℕ) → Open
 arms_opened_by around behind id = inside_choice (is_stepped (stages_known around) id) (tested (is_stepped (stages_known around) id) behind id)
 
 abbrev pub other_begun_by : (round : Option ℕ) → Option (Box Command) → List PortEvent
@@ -121,21 +121,21 @@ abbrev pub turns_ended_by : List PortEvent
 turns_ended_by = ends ∷ []
 
 -- what is open into a block that joins copies, behind a turn that leaves these phases behind
-abbrev pub combine_opened_by : Around → (turn : Open) → Option (Box Command) → Open
+abbrev pub combine_opened_by : NotingContext → (turn : Open) → Option (Box Command) → Open
 combine_opened_by around turn combine = open_combine (stages_known around) turn (maybe_block_seen combine)
 
 -- what happens in a block of these parts, by its number, and which phases are open after it
-abbrev pub block_done_by : Around → Open → (id : ℕ) → List (Vec Command Global) → List PortEvent
+abbrev pub block_done_by : NotingContext → Open → (id : ℕ) → List (Vec Command Global) → List PortEvent
 block_done_by around behind id parts = command_incidents (stages_known around) around.round behind id (blocks (groups (map part_seen parts)))
 
-abbrev pub block_opened_by : Around → Open → (id : ℕ) → List (Vec Command Global) → Open
+abbrev pub block_opened_by : NotingContext → Open → (id : ℕ) → List (Vec Command Global) → Open
 block_opened_by around behind id parts = form_open (stages_known around) behind id (blocks (groups (map part_seen parts)))
 
 -- what happens in the parts of a block, and which phases are open after them
-abbrev pub parts_done_by : Around → (stepped parted : Bool) → Open → List (Vec Command Global) → List PortEvent
+abbrev pub parts_done_by : NotingContext → (stepped parted : Bool) → Open → List (Vec Command Global) → List PortEvent
 parts_done_by around stepped parted behind parts = groups_incidents (stages_known around) around.round stepped parted behind (groups (map part_seen parts))
 
-abbrev pub parts_opened_by : Around → (stepped : Bool) → Open → List (Vec Command Global) → Open
+abbrev pub parts_opened_by : NotingContext → (stepped : Bool) → Open → List (Vec Command Global) → Open
 parts_opened_by around stepped behind parts = groups_open (stages_known around) stepped behind (groups (map part_seen parts))
 
 -- what happens in a program's body, of which so many phases are noted by the numbers of its commands

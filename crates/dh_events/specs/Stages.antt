@@ -1,8 +1,8 @@
 -- How many phases the commands of a program have, noted by the numbers of commands: none, one straight phase, or others (2).
-use Rattle.std.specs.Prelude.{ℕ}
+use Rattle.std.specs.Prelude.{◌≡◌, ℕ, List, []}
 use Rattle.dh_tree.specs.PhaseKinds.{form_phase_kind}
-use Rattle.dh_tree.specs.PlainTrees.{Action, action, ActionForm, lets, lets_memory, views, assigns, stores, reduces, calls, blocks, decides, repeats, counts, MaybeAction, no_action, one_action, Actions, no_actions, action_then, Groups, no_groups, group_then}
-use Rattle.dh_events.specs.Tables.{with_number}
+use Rattle.dh_tree.specs.PlainTrees.{Action, action, ActionForm, lets, lets_memory, views, assigns, stores, reduces, calls, blocks, decides, repeats, counts, MaybeAction, no_action, one_action, Actions, no_actions, action_then, Groups, no_groups, group_then, Program}
+use Rattle.dh_events.specs.Tables.{table_at, with_number}
 
 abbrev mutual
   -- what is noted by the numbers of a command and of those inside it, those inside first
@@ -33,3 +33,7 @@ abbrev mutual
   pub part_stages : Actions → (ℕ → ℕ) → ℕ → ℕ
   part_stages no_actions f = f
   part_stages (action_then a rest) f = part_stages rest (stages_in a f)
+
+-- the phases of a program's commands are counted so
+abbrev pub AreStagesOf : Program → (stages : List ℕ) → Type 0
+AreStagesOf p stages = table_at stages ≡ stages_in p.body (table_at [])

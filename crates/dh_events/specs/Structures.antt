@@ -7,25 +7,25 @@ use Rattle.dh_tree.specs.PlainTrees.{Term, term, TermForm, number, truth_value, 
 use Rattle.dh_meets.specs.Sharing.{number_of_op}
 use Rattle.dh_meets.specs.SourceEvents.{Element, with_indices, in_row}
 use Rattle.dh_events.specs.declared.structures.Structure.{Structure}
-use Rattle.dh_events.specs.declared.structures.Sort.{Sort}
-use Rattle.dh_events.specs.declared.structures.Sort.TheVariants as sort
+use Rattle.dh_events.specs.declared.structures.MaybeKind.{MaybeKind}
+use Rattle.dh_events.specs.declared.structures.MaybeKind.TheVariants as sort
 use Rattle.dh_events.specs.declared.structures.Form.{Form}
 use Rattle.dh_events.specs.declared.structures.Form.TheVariants as form
 
-abbrev pub kind_sort : Kind → Sort
+abbrev pub kind_sort : Kind → MaybeKind
 kind_sort kind.Bool = sort.Truth
 kind_sort (kind.Unsigned width) = sort.Unsigned width
 kind_sort (kind.Signed width) = sort.Signed width
 
-abbrev pub sort_found : Option Kind → Sort
+abbrev pub sort_found : Option Kind → MaybeKind
 sort_found None = sort.Unknown
 sort_found (Some k) = kind_sort k
 
-abbrev pub structure : Sort → Form → Structure
+abbrev pub structure : MaybeKind → Form → Structure
 structure s f = record { sort = s; form = f }
 
 -- a structure has this number
-abbrev pub StructureStands : List Structure → (number : ℕ) → Sort → Form → Type 0
+abbrev pub StructureStands : List Structure → (number : ℕ) → MaybeKind → Form → Type 0
 StructureStands known n s f = slice_get known n ≡ Some (structure s f)
 
 -- behind all indices: the number of the last one, or that of none
@@ -38,7 +38,7 @@ abbrev mutual
   pub Describes : List Structure → (number : ℕ) → Term → Type 0
   Describes known n (term place k f) = DescribesForm known n (sort_found k) f
 
-  pub DescribesForm : List Structure → (number : ℕ) → Sort → TermForm → Type 0
+  pub DescribesForm : List Structure → (number : ℕ) → MaybeKind → TermForm → Type 0
   DescribesForm known n s (number negative value) = StructureStands known n s (form.Number negative value)
   DescribesForm known n s (truth_value value) = StructureStands known n s (form.Truth value)
   DescribesForm known n s (named r) = (e : ℕ) × ((r.entity ≡ Some e) × StructureStands known n s (form.Variable e))

@@ -55,7 +55,7 @@ impl Hash for Key {
 
 /// Keys, those of past phases apart.
 #[derive(Drop)]
-pub struct Phased {
+pub struct PhaseKeys {
     /// Keys of past phases, which are not sought.
     past: Vec<Key>,
     /// Those behind them.
@@ -69,11 +69,11 @@ pub struct Phased {
 const SMALL: usize = 64;
 
 /// No keys, of which none become past before a phase later than this one comes.
-fn none_until(alloc: Global, newest: u32) -> Phased
+fn none_until(alloc: Global, newest: u32) -> PhaseKeys
     ensures none { all_keys result.past.items result.known.keys ≡ [] }
     ensures phased { ArePhased result.past.items result.known.keys result.newest }
 {
-    Phased {
+    PhaseKeys {
         past: Vec::new(alloc),
         known: IndexSet::new(alloc),
         newest,
@@ -93,7 +93,7 @@ fn empty(known: &mut IndexSet<Key>)
 }
 
 /// Makes the keys so far past, since one of a later phase comes.
-fn pass(parts: &mut Phased, phase: u32) -> Result<(), NoMemory>
+fn pass(parts: &mut PhaseKeys, phase: u32) -> Result<(), NoMemory>
     requires phased { ArePhased parts.old.past.items parts.old.known.keys parts.old.newest }
     requires later { parts.old.newest < phase }
     ensures same { KeepsAllKeys parts.old.past.items parts.old.known.keys
@@ -118,7 +118,7 @@ fn insert_keys(known: &mut IndexSet<Key>, keys: &[Key]) -> Result<(), NoMemory>
 }
 
 /// Seeks all keys from here on, since one of an earlier phase comes.
-fn gather(parts: &mut Phased) -> Result<(), NoMemory>
+fn gather(parts: &mut PhaseKeys) -> Result<(), NoMemory>
     requires phased { ArePhased parts.old.past.items parts.old.known.keys parts.old.newest }
     ensures same { KeepsAllKeys parts.old.past.items parts.old.known.keys
         parts.new.past.items parts.new.known.keys }
@@ -135,7 +135,7 @@ fn gather(parts: &mut Phased) -> Result<(), NoMemory>
 }
 
 /// Sees to it that no key of a phase is past.
-fn turn_to(parts: &mut Phased, phase: u32) -> Result<(), NoMemory>
+fn turn_to(parts: &mut PhaseKeys, phase: u32) -> Result<(), NoMemory>
     requires phased { ArePhased parts.old.past.items parts.old.known.keys parts.old.newest }
     ensures same { KeepsAllKeys parts.old.past.items parts.old.known.keys
         parts.new.past.items parts.new.known.keys }
@@ -152,7 +152,7 @@ fn turn_to(parts: &mut Phased, phase: u32) -> Result<(), NoMemory>
 }
 
 /// The number of a key.
-fn number_in(parts: &mut Phased, key: Key) -> Result<usize, NoMemory>
+fn number_in(parts: &mut PhaseKeys, key: Key) -> Result<usize, NoMemory>
     requires phased { ArePhased parts.old.past.items parts.old.known.keys parts.old.newest }
     ensures phased { ArePhased parts.new.past.items parts.new.known.keys parts.new.newest }
     ensures numbers { IfOk result (λ n. NumbersKey (all_keys parts.old.past.items parts.old.known.keys)
@@ -180,7 +180,7 @@ fn find_past(past: &[Key], key: Key) -> Option<usize>
 /// Keys, each with the number of its place.
 #[derive(Drop)]
 pub struct Classes {
-    parts: Phased,
+    parts: PhaseKeys,
 }
 
 impl Model for Classes {

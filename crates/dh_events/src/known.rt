@@ -8,7 +8,7 @@ ghost use Rattle.dh_events.specs.Structures as definitions;
 ghost use Rattle.dh_events.specs.Elements.{both_known, MakesCast, MakesIndex, MakesNoIndex, MakesNumber, MakesOperation, MakesRead, MakesBankRow, MakesTruth, MakesVariable, MakesFrom};
 ghost use Rattle.dh_events.specs.Tables.{table_at};
 
-use crate::structures::{Form, Sort, Structure, Structures, op_number, sort_of};
+use crate::structures::{Form, MaybeKind, Structure, Structures, op_number, sort_of};
 use crate::tables::get_at;
 use dh_base::NoMemory;
 use dh_value::{Kind, Op};
@@ -26,7 +26,7 @@ pub struct Known {
 /// name in them stands for nothing.
 fn made(
     structures: &mut Structures,
-    sort: Sort,
+    sort: MaybeKind,
     form: Option<Form>,
     newest: usize,
 ) -> Result<Known, NoMemory>
@@ -50,7 +50,7 @@ fn made(
 /// What is known of a number.
 pub fn number(
     structures: &mut Structures,
-    sort: Sort,
+    sort: MaybeKind,
     negative: bool,
     value: u64,
 ) -> Result<Known, NoMemory>
@@ -60,7 +60,7 @@ pub fn number(
 }
 
 /// What is known of `true` or `false`.
-pub fn truth(structures: &mut Structures, sort: Sort, value: bool) -> Result<Known, NoMemory>
+pub fn truth(structures: &mut Structures, sort: MaybeKind, value: bool) -> Result<Known, NoMemory>
     ensures { IfOk result (λ k. MakesTruth structures.old structures.new sort value k) }
 {
     made(structures, sort, Some(Form::Truth { value }), 0)
@@ -70,7 +70,7 @@ pub fn truth(structures: &mut Structures, sort: Sort, value: bool) -> Result<Kno
 pub fn variable(
     structures: &mut Structures,
     clocks: &[usize],
-    sort: Sort,
+    sort: MaybeKind,
     entity: Option<u32>,
 ) -> Result<Known, NoMemory>
     ensures { IfOk result (λ k. MakesVariable structures.old structures.new
@@ -101,7 +101,7 @@ fn read_form(entity: Option<u32>, element: Known) -> Option<Form>
 /// What is known of a read of an element.
 pub fn reading(
     structures: &mut Structures,
-    sort: Sort,
+    sort: MaybeKind,
     entity: Option<u32>,
     element: Known,
 ) -> Result<Known, NoMemory>
@@ -128,7 +128,7 @@ fn operation_form(op: Op, left: Known, right: Known) -> Option<Form>
 /// What is known of an operation.
 pub fn operation(
     structures: &mut Structures,
-    sort: Sort,
+    sort: MaybeKind,
     op: Op,
     left: Known,
     right: Known,
@@ -153,7 +153,7 @@ fn cast_form(to: Kind, inner: Known) -> Option<Form>
 /// What is known of a cast.
 pub fn cast(
     structures: &mut Structures,
-    sort: Sort,
+    sort: MaybeKind,
     to: Kind,
     inner: Known,
 ) -> Result<Known, NoMemory>
@@ -166,7 +166,7 @@ pub fn cast(
 pub fn no_index(structures: &mut Structures) -> Result<Known, NoMemory>
     ensures { IfOk result (λ k. MakesNoIndex structures.old structures.new k) }
 {
-    made(structures, Sort::Unknown, Some(Form::NoIndex), 0)
+    made(structures, MaybeKind::Unknown, Some(Form::NoIndex), 0)
 }
 
 /// What is known of indices, if there are any, and one more.
@@ -182,12 +182,17 @@ pub fn index(
             let newest = before.newest.max(last.newest);
             made(
                 structures,
-                Sort::Unknown,
+                MaybeKind::Unknown,
                 index_behind(before, last),
                 newest,
             )
         }
-        None => made(structures, Sort::Unknown, first_index(last), last.newest),
+        None => made(
+            structures,
+            MaybeKind::Unknown,
+            first_index(last),
+            last.newest,
+        ),
     }
 }
 
@@ -231,5 +236,10 @@ fn row_form(bank: u64, row: Known) -> Option<Form>
 pub fn row(structures: &mut Structures, bank: u64, row: Known) -> Result<Known, NoMemory>
     ensures { IfOk result (λ k. MakesBankRow structures.old structures.new bank row k) }
 {
-    made(structures, Sort::Unknown, row_form(bank, row), row.newest)
+    made(
+        structures,
+        MaybeKind::Unknown,
+        row_form(bank, row),
+        row.newest,
+    )
 }

@@ -282,14 +282,14 @@ fn phase_of(behind: Open, id: u32) -> u32
 
 /// What is known before the walk, and what stands round a command.
 #[derive(Clone, Copy)]
-pub struct Around<'b> {
+pub struct NotingContext<'b> {
     /// How many phases each command has, by its number.
     pub stages: &'b [usize],
     /// The innermost unrolled loop.
     pub round: Option<u32>,
 }
 
-impl Around<'_> {
+impl NotingContext<'_> {
     /// Whether a command has more than one phase.
     fn is_stepped(&self, id: u32) -> bool
         ensures { result ≡ is_stepped (stages_known self.now) id }
@@ -413,7 +413,7 @@ fn note_view<'a>(
 /// arm begin. Answers what is open in the arms and behind them.
 fn begin_arms<'a>(
     notes: &mut Notes<'a>,
-    around: Around<'_>,
+    around: NotingContext<'_>,
     behind: Open,
     id: u32,
     test: &'a Expr,
@@ -489,7 +489,7 @@ fn end_turns(notes: &mut Notes<'_>) -> Result<Open, NoMemory>
 
 /// What is open into a block that joins copies: where it is straight, it goes on with the last
 /// phase of the turn.
-fn into_combine(around: Around<'_>, turn: Open, combine: &Option<Box<Command>>) -> Open
+fn into_combine(around: NotingContext<'_>, turn: Open, combine: &Option<Box<Command>>) -> Open
     ensures { result ≡ combine_opened_by around.entry turn combine.now }
 {
     match combine {
@@ -516,7 +516,7 @@ fn behind_loop(stepped: bool, behind: Open) -> Open
 #[tactic(auto, using(dh_tree::proofs::SeenActions::actions_are, dh_tree::proofs::Collecting::found_none, dh_tree::proofs::Collecting::found_both))]
 fn note_command<'a>(
     notes: &mut Notes<'a>,
-    around: Around<'_>,
+    around: NotingContext<'_>,
     behind: Open,
     command: &'a Command,
 ) -> Result<Open, NoMemory>
@@ -559,7 +559,7 @@ fn note_command<'a>(
         } => {
             let header = header.as_ref();
             notes.assign(header.iterator.entity)?;
-            let inside = Around {
+            let inside = NotingContext {
                 stages: around.stages,
                 round: round_inside(round, id, header.factor),
             };
@@ -578,7 +578,7 @@ fn note_command<'a>(
 #[cycle(noting)]
 fn note_given<'a>(
     notes: &mut Notes<'a>,
-    around: Around<'_>,
+    around: NotingContext<'_>,
     behind: Open,
     command: &'a Option<Box<Command>>,
 ) -> Result<Open, NoMemory>
@@ -597,7 +597,7 @@ fn note_given<'a>(
 #[tactic(auto, using(dh_tree::proofs::Collecting::found_none, dh_tree::proofs::Collecting::found_both))]
 fn note_block<'a>(
     notes: &mut Notes<'a>,
-    around: Around<'_>,
+    around: NotingContext<'_>,
     behind: Open,
     id: u32,
     body: &'a [Vec<Command>],
@@ -622,7 +622,7 @@ fn note_block<'a>(
 #[tactic(auto, using(dh_tree::proofs::SeenActions::actions_are))]
 fn note_inside<'a>(
     notes: &mut Notes<'a>,
-    around: Around<'_>,
+    around: NotingContext<'_>,
     behind: Open,
     command: &'a Command,
 ) -> Result<Open, NoMemory>
@@ -642,7 +642,7 @@ fn note_inside<'a>(
 #[cycle(noting)]
 fn note_parts<'a>(
     notes: &mut Notes<'a>,
-    around: Around<'_>,
+    around: NotingContext<'_>,
     behind: Open,
     stepped: bool,
     parted: bool,
@@ -675,7 +675,7 @@ pub fn note_body<'a>(
         (body_done_by stages.now body.now)) }
     ensures noted { OnOk result (StaysNoted notes.old notes.new) }
 {
-    let around = Around {
+    let around = NotingContext {
         stages,
         round: None,
     };

@@ -17,7 +17,7 @@ use std::marker::Model;
 
 /// A kind, or none.
 #[derive(Clone, Copy, PartialEq, Eq)]
-pub enum Sort {
+pub enum MaybeKind {
     /// None was found.
     Unknown,
     /// `bool`.
@@ -67,7 +67,7 @@ pub enum Form {
     /// A cast.
     Cast {
         /// The kind that it casts to.
-        to: Sort,
+        to: MaybeKind,
         /// What is cast.
         inner: usize,
     },
@@ -93,7 +93,7 @@ pub enum Form {
 #[derive(Clone, Copy, PartialEq, Eq)]
 pub struct Structure {
     /// The kind of its values; unknown for what is no expression.
-    pub sort: Sort,
+    pub sort: MaybeKind,
     /// What it is.
     pub form: Form,
 }
@@ -174,23 +174,23 @@ impl Structures {
 }
 
 /// The sort of a kind.
-pub fn sort_of(kind: Kind) -> Sort
+pub fn sort_of(kind: Kind) -> MaybeKind
     ensures { result ≡ definitions.kind_sort kind }
 {
     match kind {
-        Kind::Bool => Sort::Truth,
-        Kind::Unsigned(width) => Sort::Unsigned(width),
-        Kind::Signed(width) => Sort::Signed(width),
+        Kind::Bool => MaybeKind::Truth,
+        Kind::Unsigned(width) => MaybeKind::Unsigned(width),
+        Kind::Signed(width) => MaybeKind::Signed(width),
     }
 }
 
 /// The sort of a kind that may lack.
-pub fn sort_found(kind: Option<Kind>) -> Sort
+pub fn sort_found(kind: Option<Kind>) -> MaybeKind
     ensures { result ≡ definitions.sort_found kind }
 {
     match kind {
         Some(kind) => sort_of(kind),
-        None => Sort::Unknown,
+        None => MaybeKind::Unknown,
     }
 }
 

@@ -1,7 +1,7 @@
 //! Numbers by number: what stands at a place that was never set is 0.
 
-ghost use Rattle.std.specs.Prelude.{◌≡◌, ◌≤◌, OnOk, length, slice_index};
-ghost use Rattle.dh_events.specs.Tables.{with_number, ChangesNumbers};
+ghost use Rattle.std.specs.Prelude.{◌≡◌, ◌≤◌, None, OnErr, OnOk, length, slice_index};
+ghost use Rattle.dh_events.specs.Tables.{with_number, ChangesKept, ChangesNumbers};
 
 use dh_base::NoMemory;
 
@@ -32,6 +32,18 @@ pub fn set_at(numbers: &mut Vec<usize>, place: u32, number: usize) -> Result<(),
     ensures { OnOk result (ChangesNumbers numbers.old numbers.new (λ f. with_number f place number)) }
 {
     set_number(numbers, place as usize, number)
+}
+
+/// Puts a number at a place, where numbers are kept at all; else it takes no memory.
+pub fn keep_at(numbers: &mut Option<Vec<usize>>, place: u32, number: usize) -> Result<(), NoMemory>
+    ensures kept { OnOk result (ChangesKept numbers.old numbers.new
+        (λ f. with_number f place number)) }
+    ensures wants { OnErr result (numbers.old ≡ None → ⊥) }
+{
+    match numbers {
+        Some(numbers) => set_at(numbers, place, number),
+        None => Ok(()),
+    }
 }
 
 /// The number at a place.

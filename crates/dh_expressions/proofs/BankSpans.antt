@@ -22,7 +22,7 @@ use Rattle.dh_meaning.specs.CoreOf.{dims_by, way_of}
 use Rattle.dh_shape.specs.Classified.{Classifies}
 use Rattle.dh_shape.specs.declared.indices.IndexKind.{IndexKind}
 use Rattle.dh_shape.specs.declared.indices.IndexKind.TheVariants as kinds
-use Rattle.dh_expressions.specs.declared.banks.Span.{Span}
+use Rattle.dh_expressions.specs.declared.banks.BankSpan.{BankSpan}
 use Rattle.dh_expressions.specs.declared.paths.Level.{Level}
 use Rattle.dh_expressions.specs.declared.scenes.Scene.{Scene}
 use Rattle.dh_expressions.specs.Levels.{copy_to}
@@ -58,20 +58,20 @@ cap_more bank own x t rest whole most is e =
     sums : (a p r most : ℕ) → min (min (a + min p most) most + r) most ≡ min (a + (p + r)) most
     sums a p r most = grind arith
 
-pub bank_more : (spans : List Span) (levels : List Level) (path bank own next i whole : ℕ) (d : Span) → i < length spans → own ≡ min (span_bank (get_or spans i d) levels path) (2 ^ 64 - 1)
+pub bank_more : (spans : List BankSpan) (levels : List Level) (path bank own next i whole : ℕ) (d : BankSpan) → i < length spans → own ≡ min (span_bank (get_or spans i d) levels path) (2 ^ 64 - 1)
     → next ≡ min (bank + min (own * (get_or spans i d).times) (2 ^ 64 - 1)) (2 ^ 64 - 1)
     → min (bank + spans_bank (drop i spans) levels path) (2 ^ 64 - 1) ≡ whole → min (next + spans_bank (drop (i + 1) spans) levels path) (2 ^ 64 - 1) ≡ whole
 bank_more spans levels path bank own next i whole d within is sum e =
     ap (λ n. min (n + spans_bank (drop (i + 1) spans) levels path) (2 ^ 64 - 1)) sum
     ∙ cap_more bank own (span_bank (get_or spans i d) levels path) (get_or spans i d).times (spans_bank (drop (i + 1) spans) levels path) whole (2 ^ 64 - 1) is
-    (sym (ap (λ (ss : List Span). min (bank + spans_bank ss levels path) (2 ^ 64 - 1)) split) ∙ e)
+    (sym (ap (λ (ss : List BankSpan). min (bank + spans_bank ss levels path) (2 ^ 64 - 1)) split) ∙ e)
   where
     split : drop i spans ≡ get_or spans i d ∷ drop (i + 1) spans
     split = drop-cons spans i d within ∙ ap (λ (n : ℕ). get_or spans i d ∷ drop n spans) (let e : suc i ≡ i + 1 = omega arith in e)
 
-pub bank_last : (spans : List Span) (levels : List Level) (path bank i total : ℕ) → length spans ≤ i → min (bank + spans_bank (drop i spans) levels path) (2 ^ 64 - 1) ≡ min total (2 ^ 64 - 1)
+pub bank_last : (spans : List BankSpan) (levels : List Level) (path bank i total : ℕ) → length spans ≤ i → min (bank + spans_bank (drop i spans) levels path) (2 ^ 64 - 1) ≡ min total (2 ^ 64 - 1)
     → min bank (2 ^ 32 - 1) ≡ min total (2 ^ 32 - 1)
-bank_last spans levels path bank i total past e = last bank total (ap (λ (ss : List Span). min (bank + spans_bank ss levels path) (2 ^ 64 - 1)) (sym (drop_past spans i past)) ∙ e)
+bank_last spans levels path bank i total past e = last bank total (ap (λ (ss : List BankSpan). min (bank + spans_bank ss levels path) (2 ^ 64 - 1)) (sym (drop_past spans i past)) ∙ e)
   where
     last : (a b : ℕ) → min (a + 0) (2 ^ 64 - 1) ≡ min b (2 ^ 64 - 1) → min a (2 ^ 32 - 1) ≡ min b (2 ^ 32 - 1)
     last a b e = omega (arith, e)
@@ -111,7 +111,7 @@ answered cs dynamic kinds.Dynamic h = refl
 none_added : (v : ℤ) → pos (0 + 0) +ℤ v ≡ v
 none_added v = omega (arith, ints)
 
-abbrev fixed_at : (n banks times : ℕ) → ℤ → Span
+abbrev fixed_at : (n banks times : ℕ) → ℤ → BankSpan
 fixed_at n banks times w = record { banks = banks; times = times; low = 0; offset = w; level = n }
 
 fixed_index : (levels : List Level) (n banks times path : ℕ) (w : ℤ) → n ≡ length levels → span_index (fixed_at n banks times w) levels path ≡ unsigned_abs w
@@ -196,7 +196,7 @@ level_last levels entity i whole past few e = let z : level_with (drop i levels)
 
 -- Sums of spans.
 
-spans_behind : (spans : List Span) (s : Span) (levels : List Level) (path : ℕ) → spans_bank (spans ++ s ∷ []) levels path ≡ spans_bank spans levels path + span_bank s levels path * s.times
+spans_behind : (spans : List BankSpan) (s : BankSpan) (levels : List Level) (path : ℕ) → spans_bank (spans ++ s ∷ []) levels path ≡ spans_bank spans levels path + span_bank s levels path * s.times
 spans_behind [] s levels path = omega arith
 spans_behind (r ∷ spans) s levels path =
     let e = spans_behind spans s levels path in
@@ -205,7 +205,7 @@ spans_behind (r ∷ spans) s levels path =
     sums : (a b c : ℕ) → a + (b + c) ≡ a + b + c
     sums a b c = omega arith
 
-pub span_added : (scene : Scene) (levels : List Level) (banks times : ℕ) (t : Term) (kind : indices.IndexKind) (old new : List Span) (s : Span)
+pub span_added : (scene : Scene) (levels : List Level) (banks times : ℕ) (t : Term) (kind : indices.IndexKind) (old new : List BankSpan) (s : BankSpan)
     → ((path : ℕ) → index_first levels path kind ≡ term_first (counters_of (program_seen scene.program.now)) levels path t) → IsSpan levels kind banks times s → new ≡ old ++ s ∷ []
     → AddsSpan scene levels banks times (Some t) old new
 span_added scene levels banks times t kind old new s same is added = λ path.
@@ -215,7 +215,7 @@ span_added scene levels banks times t kind old new s same is added = λ path.
     ∙ (ap (λ b. spans_bank old levels path + (term_first (counters_of (program_seen scene.program.now)) levels path t % b) * s.times) is.banks_is
     ∙ ap (λ m. spans_bank old levels path + (term_first (counters_of (program_seen scene.program.now)) levels path t % banks) * m) is.times_is)))
 
-pub span_left_out : (scene : Scene) (levels : List Level) (banks times : ℕ) (t : Term) (spans : List Span) → banks ≡ 1 → AddsSpan scene levels banks times (Some t) spans spans
+pub span_left_out : (scene : Scene) (levels : List Level) (banks times : ℕ) (t : Term) (spans : List BankSpan) → banks ≡ 1 → AddsSpan scene levels banks times (Some t) spans spans
 span_left_out scene levels banks times t spans one = λ path.
     none (spans_bank spans levels path) times ∙ ap (λ m. spans_bank spans levels path + m * times) (sym (ap (λ b. term_first (counters_of (program_seen scene.program.now)) levels path t % b) one ∙ nothing (term_first (counters_of (program_seen scene.program.now)) levels path t)))
   where
@@ -257,7 +257,7 @@ module _ (scene : Scene) (levels : List Level) (dims : List Dim) (ts : List Term
           ∙ (ap (λ n. n ∷ drop (suc i) (map (λ t. index_at path t) ts)) (get_or_from_slice_get (map (λ t. index_at path t) ts) i (index_at path found.0) 0 at)
           ∙ ap (λ (m : ℕ). index_at path found.0 ∷ drop m (map (λ t. index_at path t) ts)) (let e : suc i ≡ i + 1 = omega arith in e))
 
-  pub spans_more : (i k times : ℕ) (d : Dim) (old new : List Span) → k ≡ i + 1 → i < length dims
+  pub spans_more : (i k times : ℕ) (d : Dim) (old new : List BankSpan) → k ≡ i + 1 → i < length dims
       → ((path : ℕ) → min (spans_bank old levels path) (2 ^ 64 - 1) ≡ min (bank_of (drop k dims) (drop k (map (λ t. index_at path t) ts))) (2 ^ 64 - 1))
       → times ≡ min (banks_of (drop k dims)) (2 ^ 64 - 1) → AddsSpan scene levels (get_or dims i d).banks times (slice_get ts i) old new
       → (path : ℕ) → min (spans_bank new levels path) (2 ^ 64 - 1) ≡ min (bank_of (drop i dims) (drop i (map (λ t. index_at path t) ts))) (2 ^ 64 - 1)
@@ -322,7 +322,7 @@ pub indices_listed : (cs : List Counter) (levels : List Level) (path : ℕ) (ts 
 indices_listed cs levels path [] = refl
 indices_listed cs levels path (t ∷ ts) = ap (λ ns. term_first cs levels path t ∷ ns) (indices_listed cs levels path ts)
 
-pub bank_listed : (scene : Scene) (levels : List Level) (memory : ℕ) (form : TermForm) (r : Ref) (ts : List Term) (spans : List Span) → form ≡ accessed r (terms ts)
+pub bank_listed : (scene : Scene) (levels : List Level) (memory : ℕ) (form : TermForm) (r : Ref) (ts : List Term) (spans : List BankSpan) → form ≡ accessed r (terms ts)
     → TellsSpans scene levels (dims_by (dims_at (table_of (program_seen scene.program.now)) memory) (way_of (known_in scene) r)) ts spans → TellsBank scene levels memory form spans 0
 bank_listed scene levels memory form r ts spans is tells = λ path.
     none (spans_bank spans levels path)
@@ -334,7 +334,7 @@ bank_listed scene levels memory form r ts spans is tells = λ path.
     none n = omega arith
 
 -- an access that names its bank, or none
-pub bank_itself : (scene : Scene) (levels : List Level) (memory : ℕ) (form other : TermForm) (spans : List Span) (own : ℕ) → form ≡ other → spans ≡ []
+pub bank_itself : (scene : Scene) (levels : List Level) (memory : ℕ) (form other : TermForm) (spans : List BankSpan) (own : ℕ) → form ≡ other → spans ≡ []
     → ((path : ℕ) → own ≡ bank_by (program_seen scene.program.now) (way_named (known_in scene) other) levels memory other path) → TellsBank scene levels memory form spans own
 bank_itself scene levels memory form other spans own is none same = λ path.
     ap (λ ss. min (spans_number ss levels own path) (2 ^ 64 - 1)) none

@@ -6,7 +6,7 @@ use mathlib.Core.Path.{fun_ext}
 use Rattle.dh_base.specs.declared.places.Place.{Place}
 use Rattle.dh_tree.specs.PlainTrees.{TermForm}
 use Rattle.dh_tree.specs.Seen.{program_seen}
-use Rattle.dh_expressions.specs.declared.banks.Span.{Span}
+use Rattle.dh_expressions.specs.declared.banks.BankSpan.{BankSpan}
 use Rattle.dh_expressions.specs.declared.copies.AccessAt.{AccessAt}
 use Rattle.dh_expressions.specs.declared.drafts.Draft.{Draft}
 use Rattle.dh_expressions.specs.declared.scenes.Around.{Around}
@@ -24,7 +24,7 @@ narrowed_same : (a b : ℕ) → min a (2 ^ 64 - 1) ≡ min b (2 ^ 64 - 1) → na
 narrowed_same a b e = omega (arith, e)
 
 pub copies_stand : (scene : Scene) (around : Around) (memory : ℕ) (place : Place) (form : TermForm) (writes : Bool) (old new : Draft) (after : List ℕ)
-    (counts flags : List Bool) (spans extents : List Span) (own shifts : ℕ) (copies : List AccessAt) → flags ≡ counts → extents ≡ spans → shifts ≡ shifts_on (way_named (known_in scene) form)
+    (counts flags : List Bool) (spans extents : List BankSpan) (own shifts : ℕ) (copies : List AccessAt) → flags ≡ counts → extents ≡ spans → shifts ≡ shifts_on (way_named (known_in scene) form)
     → TellsCountedLevels scene (length around.levels.now) form writes counts → TellsBank scene around.levels.now memory form spans own
     → MakesCopiesBy old new after around.guards.now (leaders_by around.levels.now flags) (banks_by extents around.levels.now own) (groups_by around.levels.now shifts) copies
     → MakesCopies old new scene around after (standing_at scene around memory place form writes) copies

@@ -13,7 +13,7 @@ use Rattle.dh_value.proofs.Values.{integer_width}
 use Rattle.dh_tree.specs.declared.trees.counters.Counter.{Counter}
 use Rattle.dh_meaning.specs.Effects.{bits_of}
 use Rattle.dh_meaning.specs.Phases.{turn_count}
-use Rattle.dh_code.specs.declared.places.Held.{Held}
+use Rattle.dh_code.specs.declared.places.VariableSlots.{VariableSlots}
 use Rattle.dh_expressions.specs.declared.drafts.Draft.{Draft}
 use Rattle.dh_expressions.specs.declared.scenes.Lane.{Lane}
 use Rattle.dh_expressions.specs.Drafted.{BlockBegun, Computes, Extends, FitsStep, BlockStep, word_shown, tale}
@@ -30,7 +30,7 @@ start_word k start n w whole is made =
     ∙ (ap (λ b. with_bits k b) (ap (λ s. s % 2 ^ width_of k) is ∙ cut_first n (width_of k) (integer_width k whole).1)
     ∙ sym (number_word k n))
 
-module _ (c : Counter) (held : Held) (lane : Lane) (kind : Kind) where
+module _ (c : Counter) (held : VariableSlots) (lane : Lane) (kind : Kind) where
   abbrev turn_in : BlockStep → ℕ
   turn_in x = slice_index x.start.registers held.first
 

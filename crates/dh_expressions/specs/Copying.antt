@@ -9,7 +9,7 @@ use Rattle.dh_meets.specs.Charges.{element_depends, entity_depends}
 use Rattle.dh_events.specs.Accesses.{element_in, entity_in}
 use Rattle.dh_events.specs.Scopes.{AreScopes, IsLow}
 use Rattle.dh_plan.specs.declared.operations.OperationForm.TheVariants.{Compute}
-use Rattle.dh_expressions.specs.declared.banks.Span.{Span}
+use Rattle.dh_expressions.specs.declared.banks.BankSpan.{BankSpan}
 use Rattle.dh_expressions.specs.declared.copies.AccessAt.{AccessAt}
 use Rattle.dh_expressions.specs.declared.drafts.Draft.{Draft}
 use Rattle.dh_expressions.specs.declared.paths.Level.{Level}
@@ -40,7 +40,7 @@ pub record TellsCountedLevels (scene : Scene) (levels : ℕ) (form : TermForm) (
 abbrev pub leaders_by : List Level → List Bool → (path : ℕ) → ℕ
 leaders_by levels counts path = leader_number levels (is_counted_level counts) path
 
-abbrev pub banks_by : List Span → List Level → (own : ℕ) → (path : ℕ) → ℕ
+abbrev pub banks_by : List BankSpan → List Level → (own : ℕ) → (path : ℕ) → ℕ
 banks_by spans levels own path = narrowed (spans_number spans levels own path)
 
 -- paths whose first copies are the same, so many, are one group

@@ -27,7 +27,7 @@ use Rattle.dh_meaning.specs.Ways.{Hidden, Way, WayStep as ViewStep}
 use Rattle.dh_plan.specs.declared.operations.ReachStep.{ReachStep}
 use Rattle.dh_plan.specs.Blocks.{kind_at}
 use Rattle.dh_code.specs.Extended.{extension_of}
-use Rattle.dh_code.specs.declared.places.Held.{Held}
+use Rattle.dh_code.specs.declared.places.VariableSlots.{VariableSlots}
 use Rattle.dh_code.specs.Slots.{held_at}
 use Rattle.dh_expressions.specs.declared.accesses.Accesses.{Accesses}
 use Rattle.dh_expressions.specs.declared.accesses.Touched.{Touched}
@@ -99,15 +99,15 @@ pub record GivesWhere (old new : Draft) (value : ℕ) (Where : BlockStep → Typ
 
 -- Variables.
 
-abbrev pub copy_in_turn : Counter → Held → Lane → ℕ
+abbrev pub copy_in_turn : Counter → VariableSlots → Lane → ℕ
 copy_in_turn c held lane = if nat_le c.factor 1 then 0 else last_number lane.around.levels.now held.depth lane.number
 
 -- what an iterator holds, by the turn that its loop's counter holds
-abbrev pub iterator_shown : BlockStep → Counter → Held → Lane → Kind → Word
+abbrev pub iterator_shown : BlockStep → Counter → VariableSlots → Lane → Kind → Word
 iterator_shown x c held lane kind = word_of kind (pos (c.low + slice_index x.start.registers held.first * c.factor + copy_in_turn c held lane))
 
 -- the loop of an iterator is in a turn of its own
-pub record IsTurning (x : BlockStep) (c : Counter) (held : Held) (kind : Kind) : Type 0 where
+pub record IsTurning (x : BlockStep) (c : Counter) (held : VariableSlots) (kind : Kind) : Type 0 where
   pub integer : IsInteger kind
   pub width : ℕ
   pub counter : kind_at x.start.kinds held.first ≡ Unsigned width
@@ -116,7 +116,7 @@ pub record IsTurning (x : BlockStep) (c : Counter) (held : Held) (kind : Kind) :
 abbrev pub counter_of : Scene → (entity : ℕ) → Option Counter
 counter_of scene entity = counter_in (counters_of (program_seen scene.program.now)) (Some entity)
 
-abbrev pub shown_by : BlockStep → Option Counter → Held → Lane → (current : List (Option ℕ)) → Kind → Word
+abbrev pub shown_by : BlockStep → Option Counter → VariableSlots → Lane → (current : List (Option ℕ)) → Kind → Word
 shown_by x None held lane current kind = variable_shown x current (register_at held lane)
 shown_by x (Some c) held lane current kind = iterator_shown x c held lane kind
 
@@ -124,7 +124,7 @@ shown_by x (Some c) held lane current kind = iterator_shown x c held lane kind
 abbrev pub entity_shown : Scene → Lane → (current : List (Option ℕ)) → BlockStep → (entity : ℕ) → Kind → Word
 entity_shown scene lane current x entity kind = shown_by x (counter_of scene entity) (held_at scene.held.now entity) lane current kind
 
-abbrev pub TurnsBy : BlockStep → Option Counter → Held → Kind → Type 0
+abbrev pub TurnsBy : BlockStep → Option Counter → VariableSlots → Kind → Type 0
 TurnsBy x None held kind = Unit {0}
 TurnsBy x (Some c) held kind = IsTurning x c held kind
 

@@ -11,7 +11,7 @@ use Rattle.dh_tree.specs.declared.trees.counters.Counter.{Counter}
 use Rattle.dh_tree.specs.PlainTrees.{Term}
 use Rattle.dh_meaning.specs.Effects.{bits_of}
 use Rattle.dh_code.specs.Extended.{extension_of}
-use Rattle.dh_code.specs.declared.places.Held.{Held}
+use Rattle.dh_code.specs.declared.places.VariableSlots.{VariableSlots}
 use Rattle.dh_code.specs.Slots.{held_at}
 use Rattle.dh_plan.specs.declared.operations.OperationForm.TheVariants.{Constant, Old, Compute, Convert}
 use Rattle.dh_expressions.specs.declared.drafts.Draft.{Draft}
@@ -131,7 +131,7 @@ pub record MadeOffset (kind : Kind) (multiple : ℕ) (old new : Draft) (v : ℕ)
   pub pushes : Pushes middle new v None (Compute Add multiple amount)
 
 -- what an iterator holds, by the turn that its loop's counter holds
-pub record MadeTurns (held : Held) (kind : Kind) (old new : Draft) (v : ℕ) : Type 0 where
+pub record MadeTurns (held : VariableSlots) (kind : Kind) (old new : Draft) (v : ℕ) : Type 0 where
   pub first : Draft
   pub second : Draft
   pub third : Draft
@@ -144,7 +144,7 @@ pub record MadeTurns (held : Held) (kind : Kind) (old new : Draft) (v : ℕ) : T
   pub ends : IsThere third new multiple v ⊎ MadeOffset kind multiple third new v
 
 -- or a number, where the loop has one turn
-abbrev pub MadeIterator : Held → Kind → (old new : Draft) → (v : ℕ) → Type 0
+abbrev pub MadeIterator : VariableSlots → Kind → (old new : Draft) → (v : ℕ) → Type 0
 MadeIterator held kind old new v = ((start : ℕ) × MadeNumber kind false start old new v) ⊎ MadeTurns held kind old new v
 
 -- the value that a variable was given in this step, or else its register
@@ -157,7 +157,7 @@ abbrev pub MadeShown : (current : List (Option ℕ)) → (register : ℕ) → (o
 MadeShown current register old new v = MadeCurrent (slice_get current register) register old new v
 
 -- an iterator, with what it then shows: the numbers that are put down for it are told by nothing else
-abbrev pub MadeBy : Option Counter → Held → Lane → (current : List (Option ℕ)) → Kind → (old new : Draft) → (v : ℕ) → Type 0
+abbrev pub MadeBy : Option Counter → VariableSlots → Lane → (current : List (Option ℕ)) → Kind → (old new : Draft) → (v : ℕ) → Type 0
 MadeBy None held lane current kind old new v = MadeShown current (register_at held lane) old new v
 MadeBy (Some c) held lane current kind old new v = MadeIterator held kind old new v × GivesWhere old new v (λ x. IsTurning x c held kind) (λ x. iterator_shown x c held lane kind)
 

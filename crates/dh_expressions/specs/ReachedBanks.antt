@@ -10,7 +10,7 @@ use Rattle.dh_tree.specs.PlainTrees.{Term, term, TermForm, accessed, in_bank, Te
 use Rattle.dh_tree.specs.Seen.{program_seen}
 use Rattle.dh_meaning.specs.CoreOf.{dims_by}
 use Rattle.dh_meaning.specs.Ways.{Way}
-use Rattle.dh_expressions.specs.declared.banks.Span.{Span}
+use Rattle.dh_expressions.specs.declared.banks.BankSpan.{BankSpan}
 use Rattle.dh_expressions.specs.declared.paths.Level.{Level}
 use Rattle.dh_expressions.specs.declared.scenes.Scene.{Scene}
 use Rattle.dh_expressions.specs.Levels.{copy_to}
@@ -43,27 +43,27 @@ bank_by p way levels memory form path = 0
 -- The same by spans.
 
 -- the index of a dimension
-abbrev pub span_index : Span → List Level → (path : ℕ) → ℕ
+abbrev pub span_index : BankSpan → List Level → (path : ℕ) → ℕ
 span_index s levels path = unsigned_abs (pos (s.low + copy_to (slice_get levels s.level) path) +ℤ s.offset)
 
-abbrev pub span_bank : Span → List Level → (path : ℕ) → ℕ
+abbrev pub span_bank : BankSpan → List Level → (path : ℕ) → ℕ
 span_bank s levels path = span_index s levels path % s.banks
 
-abbrev pub spans_bank : List Span → List Level → (path : ℕ) → ℕ
+abbrev pub spans_bank : List BankSpan → List Level → (path : ℕ) → ℕ
 spans_bank [] levels path = 0
 spans_bank (s ∷ ss) levels path = span_bank s levels path * s.times + spans_bank ss levels path
 
-abbrev pub spans_number : List Span → List Level → (own path : ℕ) → ℕ
+abbrev pub spans_number : List BankSpan → List Level → (own path : ℕ) → ℕ
 spans_number spans levels own path = own + spans_bank spans levels path
 
 -- these spans, with a number that an access names itself, tell the bank that it reaches at each path
-abbrev pub TellsBank : Scene → List Level → (memory : ℕ) → TermForm → List Span → (own : ℕ) → Type 0
+abbrev pub TellsBank : Scene → List Level → (memory : ℕ) → TermForm → List BankSpan → (own : ℕ) → Type 0
 TellsBank scene levels memory form spans own =
     (path : ℕ) → min (spans_number spans levels own path) (2 ^ 64 - 1)
     ≡ min (bank_by (program_seen scene.program.now) (way_named (known_in scene) form) levels memory form path) (2 ^ 64 - 1)
 
 -- a dimension of so many banks, with so many behind it, whose index is of this kind
-pub record IsSpan (levels : List Level) (kind : IndexKind) (banks times : ℕ) (s : Span) : Type 0 where
+pub record IsSpan (levels : List Level) (kind : IndexKind) (banks times : ℕ) (s : BankSpan) : Type 0 where
   pub banks_is : s.banks ≡ banks
   pub times_is : s.times ≡ times
   pub index_is : (path : ℕ) → span_index s levels path ≡ index_first levels path kind
@@ -73,11 +73,11 @@ abbrev pub bank_added : List Counter → List Level → (banks times path : ℕ)
 bank_added cs levels banks times path None = 0
 bank_added cs levels banks times path (Some t) = (term_first cs levels path t % banks) * times
 
-abbrev pub AddsSpan : Scene → List Level → (banks times : ℕ) → Option Term → (old new : List Span) → Type 0
+abbrev pub AddsSpan : Scene → List Level → (banks times : ℕ) → Option Term → (old new : List BankSpan) → Type 0
 AddsSpan scene levels banks times index old new =
     (path : ℕ) → spans_bank new levels path ≡ spans_bank old levels path + bank_added (counters_of (program_seen scene.program.now)) levels banks times path index
 
 -- the spans tell the bank that indices tell, in 64 bits
-abbrev pub TellsSpans : Scene → List Level → List Dim → List Term → List Span → Type 0
+abbrev pub TellsSpans : Scene → List Level → List Dim → List Term → List BankSpan → Type 0
 TellsSpans scene levels dims indices spans =
     (path : ℕ) → min (spans_bank spans levels path) (2 ^ 64 - 1) ≡ min (bank_of dims (map (λ t. term_first (counters_of (program_seen scene.program.now)) levels path t) indices)) (2 ^ 64 - 1)

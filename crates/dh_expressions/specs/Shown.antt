@@ -9,7 +9,7 @@ use Rattle.dh_value.specs.Words.{value_of, with_bits, word_of}
 use Rattle.dh_value.specs.Operations.{binary_of}
 use Rattle.dh_tree.specs.PlainTrees as plain
 use Rattle.dh_meaning.specs.Bindings.{kind_or_first}
-use Rattle.dh_code.specs.declared.places.Held.{Held}
+use Rattle.dh_code.specs.declared.places.VariableSlots.{VariableSlots}
 use Rattle.dh_code.specs.Extended.{extension_of}
 use Rattle.dh_tree.specs.Kinds.{same_kind}
 use Rattle.dh_plan.specs.Blocks.{register_word}
@@ -33,7 +33,7 @@ abbrev pub variable_shown : BlockStep → (current : List (Option ℕ)) → (reg
 variable_shown x current register = current_shown x (slice_get current register) register
 
 -- the register of a variable at a path
-abbrev pub register_at : Held → Lane → ℕ
+abbrev pub register_at : VariableSlots → Lane → ℕ
 register_at held lane = min (held.first + rank_number lane.around.levels.now held.depth lane.number) (2 ^ 64 - 1)
 
 abbrev pub guard_or_none : Option (Option ℕ) → Option ℕ

@@ -26,7 +26,7 @@ use std::alloc::Global;
 
 /// A dimension, as the number of a path tells its bank: by the size of `low + copy + offset`.
 #[derive(Clone, Copy)]
-pub struct Span {
+pub struct BankSpan {
     /// The banks of the dimension.
     pub banks: u64,
     /// The banks of the dimensions behind it.
@@ -62,7 +62,7 @@ fn level_of(levels: &[Level], entity: u32) -> usize
 }
 
 /// A dimension whose index is a literal, or tells no bank.
-fn fixed(levels: usize, banks: u64, times: u64, offset: i128) -> Span
+fn fixed(levels: usize, banks: u64, times: u64, offset: i128) -> BankSpan
     ensures { result ≡ record {
       banks = banks;
       times = times;
@@ -72,7 +72,7 @@ fn fixed(levels: usize, banks: u64, times: u64, offset: i128) -> Span
           levels;
     } }
 {
-    Span {
+    BankSpan {
         banks,
         times,
         low: 0,
@@ -82,7 +82,7 @@ fn fixed(levels: usize, banks: u64, times: u64, offset: i128) -> Span
 }
 
 /// A dimension whose index is an iterator with a literal added.
-fn counting(level: usize, banks: u64, times: u64, low: u64, offset: i128) -> Span
+fn counting(level: usize, banks: u64, times: u64, low: u64, offset: i128) -> BankSpan
     ensures { result ≡ record {
       banks = banks;
       times = times;
@@ -92,7 +92,7 @@ fn counting(level: usize, banks: u64, times: u64, low: u64, offset: i128) -> Spa
           level;
     } }
 {
-    Span {
+    BankSpan {
         banks,
         times,
         low,
@@ -102,7 +102,7 @@ fn counting(level: usize, banks: u64, times: u64, low: u64, offset: i128) -> Spa
 }
 
 /// A dimension, by its index.
-fn span_of(scene: &Scene<'_>, levels: &[Level], banks: u64, times: u64, index: &Expr) -> Span
+fn span_of(scene: &Scene<'_>, levels: &[Level], banks: u64, times: u64, index: &Expr) -> BankSpan
     ensures { IsSpan levels.now (index_kind (counters_of (program_seen scene.now.program.now))
         index.now.kind (form_seen index.now.form)) banks times result }
 {
@@ -123,7 +123,7 @@ fn span_of(scene: &Scene<'_>, levels: &[Level], banks: u64, times: u64, index: &
 fn add_span(
     scene: &Scene<'_>,
     levels: &[Level],
-    spans: &mut Vec<Span>,
+    spans: &mut Vec<BankSpan>,
     banks: u64,
     times: u64,
     index: &Expr,
@@ -141,7 +141,7 @@ fn add_span(
 fn add_span_at(
     scene: &Scene<'_>,
     levels: &[Level],
-    spans: &mut Vec<Span>,
+    spans: &mut Vec<BankSpan>,
     banks: u64,
     times: u64,
     indices: &[Expr],
@@ -162,7 +162,7 @@ fn spans_of(
     levels: &[Level],
     dims: &[Dim],
     indices: &[Expr],
-) -> Result<Vec<Span>, NoMemory>
+) -> Result<Vec<BankSpan>, NoMemory>
     ensures { IfOk result (λ spans. TellsSpans scene.now levels.now dims.now (map term_seen
         indices.now) spans.items) }
 {
@@ -177,7 +177,7 @@ fn spans_of(
 }
 
 /// No dimension.
-fn no_spans(alloc: Global) -> Vec<Span>
+fn no_spans(alloc: Global) -> Vec<BankSpan>
     ensures { result.items ≡ [] }
 {
     Vec::new(alloc)
@@ -189,7 +189,7 @@ fn spans_in(
     levels: &[Level],
     memory: usize,
     indices: &[Expr],
-) -> Result<Vec<Span>, NoMemory>
+) -> Result<Vec<BankSpan>, NoMemory>
     ensures { IfOk result (λ spans. TellsSpans scene.now levels.now (dims_at (table_of
         (program_seen scene.now.program.now)) memory) (map term_seen indices.now) spans.items) }
 {
@@ -206,7 +206,7 @@ fn spans_named(
     of: &Ref,
     memory: usize,
     indices: &[Expr],
-) -> Result<Vec<Span>, NoMemory>
+) -> Result<Vec<BankSpan>, NoMemory>
     ensures { IfOk result (λ spans. TellsSpans scene.now levels.now (dims_by (dims_at (table_of
         (program_seen scene.now.program.now)) memory) (way_of (known_in scene.now) of.now)) (map
         term_seen indices.now) spans.items) }
@@ -226,7 +226,7 @@ pub fn bank_told(
     levels: &[Level],
     memory: usize,
     access: &Expr,
-) -> Result<(Vec<Span>, u64), NoMemory>
+) -> Result<(Vec<BankSpan>, u64), NoMemory>
     ensures { IfOk result (λ r. TellsBank scene.now levels.now memory (form_seen access.now.form)
         r.0.items r.1) }
 {
@@ -291,7 +291,7 @@ fn copy_added(levels: &[Level], level: usize, number: u64) -> u64
 }
 
 /// The bank of a dimension at a path.
-fn bank_in(span: Span, levels: &[Level], number: u64) -> u64
+fn bank_in(span: BankSpan, levels: &[Level], number: u64) -> u64
     ensures { result ≡ min (span_bank span levels.now number) (2 ^ 64 - 1) }
 {
     let copy = copy_added(levels, span.level, number);
@@ -300,7 +300,7 @@ fn bank_in(span: Span, levels: &[Level], number: u64) -> u64
 }
 
 /// The bank that an access reaches at a path.
-pub fn bank_at(spans: &[Span], levels: &[Level], named: u64, number: u64) -> u32
+pub fn bank_at(spans: &[BankSpan], levels: &[Level], named: u64, number: u64) -> u32
     ensures { result ≡ narrowed (spans_number spans.now levels.now named number) }
 {
     let mut bank = named;

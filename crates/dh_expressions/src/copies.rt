@@ -9,7 +9,7 @@ ghost use Rattle.dh_expressions.specs.Copying.{AddsCopy, TellsCountedLevels, Joi
 ghost use Rattle.dh_expressions.specs.Standings.{standing_at};
 ghost use Rattle.dh_expressions.specs.Touching.{MakesCopies};
 
-use crate::banks::{Span, bank_at, bank_told};
+use crate::banks::{BankSpan, bank_at, bank_told};
 use crate::drafts::{Draft, push_compute};
 use crate::naming::shifts_through;
 use crate::paths::{leader_of, rank_at};
@@ -154,7 +154,7 @@ fn copies_by(
     draft: &mut Draft,
     numbers: &mut Vec<usize>,
     counts: &[bool],
-    spans: &[Span],
+    spans: &[BankSpan],
     named: u64,
     shifts: u32,
 ) -> Result<Vec<AccessAt>, NoMemory>

@@ -10,7 +10,7 @@ use crate::drafts::{Draft, push_compute, push_constant, push_convert, push_old};
 use crate::paths::last_copy;
 use crate::scenes::Lane;
 use dh_base::NoMemory;
-use dh_code::{Held, literal};
+use dh_code::{VariableSlots, literal};
 use dh_meaning::turn_count;
 use dh_tree::{Counter, Kind};
 use dh_value::Op;
@@ -103,7 +103,7 @@ fn push_multiple(draft: &mut Draft, kind: Kind, value: u64, factor: u64) -> Resu
 }
 
 /// The copy of a loop with this iterator at a path.
-fn copy_of(counter: Counter, held: Held, lane: &Lane<'_>) -> u64
+fn copy_of(counter: Counter, held: VariableSlots, lane: &Lane<'_>) -> u64
     ensures { result ≡ copy_in_turn counter held lane.now }
 {
     if counter.factor <= 1 {
@@ -118,7 +118,7 @@ pub fn push_iterator(
     draft: &mut Draft,
     lane: &Lane<'_>,
     counter: Counter,
-    held: Held,
+    held: VariableSlots,
     kind: Kind,
 ) -> Result<u64, NoMemory>
     ensures means { IfOk result (λ n. GivesWhere draft.old draft.new n (λ x. IsTurning x counter

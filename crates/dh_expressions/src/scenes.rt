@@ -5,7 +5,7 @@ ghost use Rattle.dh_expressions.specs.Shown.{guard_of};
 
 use crate::paths::Level;
 use dh_base::Items;
-use dh_code::Held;
+use dh_code::VariableSlots;
 use dh_events::Scope;
 use dh_tree::Typed;
 use dh_viewing::BankSet;
@@ -31,7 +31,7 @@ pub struct Scene<'a> {
     pub program: &'a Typed,
     /// The registers of its variables, by their entities; of an iterator the first is its loop's
     /// counter.
-    pub held: &'a [Held],
+    pub held: &'a [VariableSlots],
     /// Where each variable is declared, by its entity.
     pub scopes: &'a [Option<Scope>],
     /// Of each access the earlier read that it shares, if it shares one.

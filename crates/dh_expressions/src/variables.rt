@@ -13,11 +13,11 @@ use crate::drafts::{Draft, push_old};
 use crate::paths::rank_at;
 use crate::scenes::{Lane, Scene};
 use dh_base::{Items, NoMemory};
-use dh_code::{Held, place_at};
+use dh_code::{VariableSlots, place_at};
 use dh_ways::Hidden;
 
 /// The register of a variable at a path.
-pub fn slot_at(held: Held, lane: &Lane<'_>) -> u64
+pub fn slot_at(held: VariableSlots, lane: &Lane<'_>) -> u64
     ensures { result ≡ register_at held lane.now }
 {
     let rank = rank_at(lane.around.levels, held.depth, lane.number);

@@ -7,7 +7,7 @@ use Rattle.dh_value.specs.declared.operators.Op.TheVariants as op
 use Rattle.dh_value.specs.Words.{IsInteger, IsKind}
 use Rattle.dh_value.specs.Operations.{Suits}
 use Rattle.dh_value.proofs.Values.{integer_width}
-use Rattle.dh_code.specs.declared.places.Held.{Held}
+use Rattle.dh_code.specs.declared.places.VariableSlots.{VariableSlots}
 use Rattle.dh_plan.specs.Blocks.{kind_at}
 use Rattle.dh_expressions.specs.declared.drafts.Draft.{Draft}
 use Rattle.dh_expressions.specs.Drafted.{Extends}
@@ -169,7 +169,7 @@ module _ (k : Kind) where
   ends_forms multiple old new v (inr m) = offset_forms multiple old new v m
 
   -- what an iterator holds
-  module _ (held : Held) where
+  module _ (held : VariableSlots) where
     abbrev pub Counts : FormedBlock → Type 0
     Counts x = IsInteger k × (held.first < length x.plan.registers)
 

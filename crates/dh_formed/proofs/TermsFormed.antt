@@ -16,7 +16,7 @@ use Rattle.dh_meaning.specs.AccessNumbers.{term_accesses, terms_accesses}
 use Rattle.dh_meaning.specs.Bindings.{kind_or_first}
 use Rattle.dh_meaning.specs.CoreOf.{dims_by, entity_number, memory_of, way_of}
 use Rattle.dh_meaning.specs.Ways.{Hidden, Way}
-use Rattle.dh_code.specs.declared.places.Held.{Held}
+use Rattle.dh_code.specs.declared.places.VariableSlots.{VariableSlots}
 use Rattle.dh_code.specs.Slots.{held_at}
 use Rattle.dh_plan.specs.declared.operations.ReachStep.{ReachStep}
 use Rattle.dh_plan.specs.Blocks.{kind_at}
@@ -132,7 +132,7 @@ module _ (scene : Scene) (lane : Lane) (current : List (Option ℕ)) where
   }
 
   -- a variable
-  variable_forms : (c : Option Counter) (held : Held) (k : Kind) (old new : Draft) (before after : Accesses) (v : ℕ) → after ≡ before → MadeBy c held lane current k old new v
+  variable_forms : (c : Option Counter) (held : VariableSlots) (k : Kind) (old new : Draft) (before after : Accesses) (v : ℕ) → after ≡ before → MadeBy c held lane current k old new v
       → Term old new before after v (λ x. VariableSuits x c held lane k) k
   variable_forms None held k old new before after v same m =
       term_value old new before after v (ShowsThere current (register_at held lane) old) _ (λ x. kind_at x.plan.registers (register_at held lane)) k same

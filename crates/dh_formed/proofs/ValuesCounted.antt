@@ -9,7 +9,7 @@ use Rattle.dh_value.specs.declared.operators.Op.TheVariants as op
 use Rattle.dh_tree.specs.declared.trees.counters.Counter.{Counter}
 use Rattle.dh_tree.specs.PlainTrees.{Term}
 use Rattle.dh_meaning.specs.Ways.{Hidden, Way}
-use Rattle.dh_code.specs.declared.places.Held.{Held}
+use Rattle.dh_code.specs.declared.places.VariableSlots.{VariableSlots}
 use Rattle.dh_plan.specs.declared.operations.OperationForm.{OperationForm}
 use Rattle.dh_plan.specs.declared.operations.OperationForm.TheVariants.{Constant, Old, Compute, Convert}
 use Rattle.dh_plan.specs.declared.operations.Reach.{Reach}
@@ -138,7 +138,7 @@ module _ (Sees : ℕ → Type 0) (Probes Reads Writes : Reach → Type 0) where
   ends_counts k multiple old new v (inl m) = there_counts old new multiple v m
   ends_counts k multiple old new v (inr m) = still_again old m.middle new (number_counts k false m.start old m.middle m.amount m.constant) (compute_counts m.middle new v multiple m.amount op.Add m.pushes)
 
-  pub iterator_counts : (k : Kind) (held : Held) → Sees held.first → (old new : Draft) (v : ℕ) → MadeIterator held k old new v → Still old new
+  pub iterator_counts : (k : Kind) (held : VariableSlots) → Sees held.first → (old new : Draft) (v : ℕ) → MadeIterator held k old new v → Still old new
   iterator_counts k held sees old new v (inl m) = number_counts k false m.0 old new v m.1
   iterator_counts k held sees old new v (inr m) =
       still_again old m.third new
@@ -155,7 +155,7 @@ module _ (Sees : ℕ → Type 0) (Probes Reads Writes : Reach → Type 0) where
   pub shown_counts : (current : List (Option ℕ)) (register : ℕ) → Sees register → (old new : Draft) (v : ℕ) → MadeShown current register old new v → Still old new
   shown_counts current register sees old new v m = current_by (slice_get current register) register sees old new v m
 
-  pub variable_counts : (c : Option Counter) (held : Held) (lane : Lane) (current : List (Option ℕ)) (k : Kind) → Sees (register_seen c held lane) → (old new : Draft) (v : ℕ) → MadeBy c held lane current k old new v → Still old new
+  pub variable_counts : (c : Option Counter) (held : VariableSlots) (lane : Lane) (current : List (Option ℕ)) (k : Kind) → Sees (register_seen c held lane) → (old new : Draft) (v : ℕ) → MadeBy c held lane current k old new v → Still old new
   variable_counts None held lane current k sees old new v m = shown_counts current (register_at held lane) sees old new v m
   variable_counts (Some c) held lane current k sees old new v m = iterator_counts k held sees old new v m.0
 

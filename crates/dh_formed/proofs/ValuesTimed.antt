@@ -9,7 +9,7 @@ use Rattle.dh_value.specs.declared.operators.Op.TheVariants as op
 use Rattle.dh_value.specs.declared.words.Word.{Word}
 use Rattle.dh_tree.specs.declared.trees.counters.Counter.{Counter}
 use Rattle.dh_tree.specs.PlainTrees.{Term}
-use Rattle.dh_code.specs.declared.places.Held.{Held}
+use Rattle.dh_code.specs.declared.places.VariableSlots.{VariableSlots}
 use Rattle.dh_plan.specs.declared.operations.OperationForm.{OperationForm}
 use Rattle.dh_plan.specs.declared.operations.OperationForm.TheVariants.{Constant, Old, Compute, Convert}
 use Rattle.dh_plan.specs.LegalSchedules.{greatest_number, is_read, there_at}
@@ -285,7 +285,7 @@ ends_timed : (k : Kind) (multiple : ℕ) (old new : Draft) (v : ℕ) → IsThere
 ends_timed k multiple old new v (inl m) = timed_there old new multiple v _ (λ c. 0) m (λ c w. w)
 ends_timed k multiple old new v (inr m) = with_number op.Add multiple m.amount k m.start (λ c. 0) old m.middle new v m.constant m.pushes
 
-turns_timed : (k : Kind) (held : Held) (old new : Draft) (v : ℕ) → MadeTurns held k old new v → TimesValue old new v (λ c. Unit {0}) (λ c. 0)
+turns_timed : (k : Kind) (held : VariableSlots) (old new : Draft) (v : ℕ) → MadeTurns held k old new v → TimesValue old new v (λ c. Unit {0}) (λ c. 0)
 turns_timed k held old new v m =
     timed_then old m.third new m.multiple v (λ c. Unit {0}) (λ c. 0) (λ c. 0) (λ c w. nil_few)
     (timed_then old m.second m.third m.turn m.multiple (λ c. Unit {0}) (λ c. 0) (λ c. 0) (λ c w. nil_few)
@@ -294,7 +294,7 @@ turns_timed k held old new v m =
     (timed_where m.second m.third m.multiple (AtStart m.turn) _ (λ c. 0) (λ c. 0) (λ c w. w.1) (λ c w. refl) (multiple_timed k m.turn m.second m.third m.multiple m.times)))
     (timed_where m.third new v (AtStart m.multiple) _ (λ c. 0) (λ c. 0) (λ c w. w.1) (λ c w. refl) (ends_timed k m.multiple m.third new v m.ends))
 
-iterator_timed : (k : Kind) (held : Held) (old new : Draft) (v : ℕ) → MadeIterator held k old new v → TimesValue old new v (λ c. Unit {0}) (λ c. 0)
+iterator_timed : (k : Kind) (held : VariableSlots) (old new : Draft) (v : ℕ) → MadeIterator held k old new v → TimesValue old new v (λ c. Unit {0}) (λ c. 0)
 iterator_timed k held old new v (inl m) = number_timed k false m.0 old new v m.1
 iterator_timed k held old new v (inr m) = turns_timed k held old new v m
 
@@ -308,7 +308,7 @@ pub shown_timed : (current : List (Option ℕ)) (register : ℕ) (level : BlockC
 shown_timed current register level old new v m = current_timed (slice_get current register) register level old new v m
 
 -- a variable at its level
-pub variable_timed : (o : Option Counter) (held : Held) (lane : Lane) (current : List (Option ℕ)) (k : Kind) (level : BlockClocks → ℕ) (old new : Draft) (v : ℕ) → MadeBy o held lane current k old new v
+pub variable_timed : (o : Option Counter) (held : VariableSlots) (lane : Lane) (current : List (Option ℕ)) (k : Kind) (level : BlockClocks → ℕ) (old new : Draft) (v : ℕ) → MadeBy o held lane current k old new v
     → TimesValue old new v (λ c. VariableAt c o held lane current (level c)) level
 variable_timed None held lane current k level old new v m = shown_timed current (register_at held lane) level old new v m
 variable_timed (Some counter) held lane current k level old new v m = timed_where old new v (λ c. Unit {0}) _ (λ c. 0) level (λ c w. tt) (λ c w. sym w) (iterator_timed k held old new v m.0)

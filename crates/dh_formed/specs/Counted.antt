@@ -6,7 +6,7 @@ use Rattle.dh_tree.specs.declared.trees.counters.Counter.{Counter}
 use Rattle.dh_tree.specs.PlainTrees as plain
 use Rattle.dh_meaning.specs.AccessNumbers.{term_accesses, terms_accesses}
 use Rattle.dh_meaning.specs.CoreOf.{core_term, core_terms}
-use Rattle.dh_code.specs.declared.places.Held.{Held}
+use Rattle.dh_code.specs.declared.places.VariableSlots.{VariableSlots}
 use Rattle.dh_code.specs.Slots.{held_at}
 use Rattle.dh_plan.specs.declared.operations.Operation.{Operation}
 use Rattle.dh_plan.specs.declared.operations.OperationForm.{OperationForm}
@@ -93,7 +93,7 @@ pub record IsLedUse (x : FormedBlock) (path n count : ℕ) (r : Reach) : Type 0 
   pub leads : reaches.access.site.standing.leader path ≡ path
 
 -- the register in which a variable, or the counter of an iterator, is seen
-abbrev pub register_seen : Option Counter → Held → Lane → ℕ
+abbrev pub register_seen : Option Counter → VariableSlots → Lane → ℕ
 register_seen None held lane = register_at held lane
 register_seen (Some c) held lane = held.first
 

@@ -21,7 +21,7 @@ use Rattle.dh_meaning.specs.CoreOf.{dims_named, entity_number, memory_of, way_of
 use Rattle.dh_meaning.specs.Effects.{kind_in}
 use Rattle.dh_meaning.specs.Ways.{Hidden, Way, WayStep as ViewStep}
 use Rattle.dh_code.specs.Extended.{extension_of}
-use Rattle.dh_code.specs.declared.places.Held.{Held}
+use Rattle.dh_code.specs.declared.places.VariableSlots.{VariableSlots}
 use Rattle.dh_code.specs.Slots.{held_at}
 use Rattle.dh_plan.specs.declared.operations.Operation.{Operation}
 use Rattle.dh_plan.specs.Blocks.{kind_at}
@@ -162,7 +162,7 @@ pub record RegisterSuits (x : FormedBlock) (register : ℕ) (k : Kind) : Type 0 
   pub there : register < length x.plan.registers
   pub kind_is : kind_at x.plan.registers register ≡ k
 
-abbrev pub VariableSuits : FormedBlock → Option Counter → Held → Lane → Kind → Type 0
+abbrev pub VariableSuits : FormedBlock → Option Counter → VariableSlots → Lane → Kind → Type 0
 VariableSuits x None held lane k = RegisterSuits x (register_at held lane) k
 VariableSuits x (Some c) held lane k = IsInteger k × (held.first < length x.plan.registers)
 

@@ -9,7 +9,7 @@ use Rattle.dh_tree.specs.PlainTrees.{Term, Terms}
 use Rattle.dh_meaning.specs.AccessNumbers.{term_accesses, terms_accesses}
 use Rattle.dh_meaning.specs.CoreOf.{memory_of}
 use Rattle.dh_meaning.specs.Effects.{kind_in}
-use Rattle.dh_code.specs.declared.places.Held.{Held}
+use Rattle.dh_code.specs.declared.places.VariableSlots.{VariableSlots}
 use Rattle.dh_plan.specs.Blocks.{kind_at}
 use Rattle.dh_expressions.specs.declared.accesses.Accesses.{Accesses}
 use Rattle.dh_expressions.specs.declared.drafts.Draft.{Draft}
@@ -51,7 +51,7 @@ ShownVariablesForm =
 -- an iterator of an integer kind, whose loop has a counter
 abbrev pub IteratorsForm : Type 0
 IteratorsForm =
-    (k : Kind) (held : Held) (old new : Draft) (v : ℕ) → MadeIterator held k old new v → FormsValue old new v (λ x. IsInteger k × (held.first < length x.plan.registers)) (λ x. k)
+    (k : Kind) (held : VariableSlots) (old new : Draft) (v : ℕ) → MadeIterator held k old new v → FormsValue old new v (λ x. IsInteger k × (held.first < length x.plan.registers)) (λ x. k)
 
 -- the reading of an element, of the kind of its memory
 abbrev pub ReadsForm : Type 0

@@ -7,7 +7,7 @@ use Rattle.dh_tree.specs.declared.trees.expressions.Ref.{Ref}
 use Rattle.dh_tree.specs.PlainTrees as plain
 use Rattle.dh_meaning.specs.CoreOf.{core_term, core_terms, target_to, way_of}
 use Rattle.dh_meaning.specs.Levels.{Leveled, Levels, target_leveled, term_leveled, terms_leveled}
-use Rattle.dh_code.specs.declared.places.Held.{Held}
+use Rattle.dh_code.specs.declared.places.VariableSlots.{VariableSlots}
 use Rattle.dh_code.specs.Slots.{held_at}
 use Rattle.dh_plan.specs.declared.operations.Operation.{Operation}
 use Rattle.dh_plan.specs.LegalSchedules.{greatest_number, there_at}
@@ -78,7 +78,7 @@ CurrentAt c None level = level ≡ 0
 CurrentAt c (Some None) level = level ≡ 0
 CurrentAt c (Some (Some value)) level = HasClock c level value
 
-abbrev pub VariableAt : BlockClocks → Option Counter → Held → Lane → (current : List (Option ℕ)) → (level : ℕ) → Type 0
+abbrev pub VariableAt : BlockClocks → Option Counter → VariableSlots → Lane → (current : List (Option ℕ)) → (level : ℕ) → Type 0
 VariableAt c None held lane current level = CurrentAt c (slice_get current (register_at held lane)) level
 VariableAt c (Some counter) held lane current level = level ≡ 0
 

@@ -3,7 +3,7 @@
 use Rattle.std.proofs.Common.{◌≡◌, ◌⊎◌, inl, inr, ℕ, ◌+◌, ◌<◌, ◌≤◌, List, [], ◌∷◌, ◌++◌, Some, None, ap, sym, ◌∙◌, subst, arith}
 use Rattle.dh_meaning.specs.Core.{CorePhase, straightly, turning, looping, choosing, CorePhases, no_core_phases, phase_and, Turning}
 use Rattle.dh_meaning.specs.Paths.{Path}
-use Rattle.dh_code.specs.declared.places.Held.{Held}
+use Rattle.dh_code.specs.declared.places.VariableSlots.{VariableSlots}
 use Rattle.dh_code.specs.Ranks.{copies_in}
 use Rattle.dh_code.specs.Slots.{EndsBefore, IsPlacing, Placing, held_at, slot_of}
 use Rattle.dh_code.proofs.SlotsHeld.{slot_below}
@@ -18,7 +18,7 @@ use Rattle.dh_gathering.specs.LoopCounters.{AreCounting, AreSlotsBy, IsCounting,
 
 module _ (scene : Scene) (p : Placing) (slots : Slots) (count : ℕ) (by_slots : AreSlotsBy scene p slots) (placing : IsPlacing p count) where
   first_of : (loop : Turning) → counter_register scene loop ≡ (held_at p.held loop.iterator).first
-  first_of loop = ap (λ (l : List Held). (held_at l loop.iterator).first) (sym by_slots.held)
+  first_of loop = ap (λ (l : List VariableSlots). (held_at l loop.iterator).first) (sym by_slots.held)
 
   below_first : (a n b s : ℕ) → a + n ≤ b → s < a + n → s ≡ b → ⊥
   below_first a n b s e l is = omega (arith, e, l, is)

@@ -9,7 +9,7 @@ use Rattle.dh_value.specs.declared.kinds.Kind.TheVariants.{Unsigned}
 use Rattle.dh_tree.specs.declared.trees.counters.Counter.{Counter}
 use Rattle.dh_tree.specs.Seen.{program_seen}
 use Rattle.dh_meaning.specs.Core.{CorePhase, straightly, turning, looping, choosing, CorePhases, no_core_phases, phase_and, Turning}
-use Rattle.dh_code.specs.declared.places.Held.{Held}
+use Rattle.dh_code.specs.declared.places.VariableSlots.{VariableSlots}
 use Rattle.dh_code.specs.Declarations.{Declaration, all_held, declaration_in, declared_factors, slots_counted}
 use Rattle.dh_code.specs.Ranks.{copies_in}
 use Rattle.dh_code.specs.Slots.{IsPlacing, Placing, held_at}
@@ -167,4 +167,4 @@ counter_has scene p ds entities count registers loop is counted held factors kin
     (first_before ds entities scene.held.now count loop.iterator is counted within (subst (λ (fs : List ℕ). 1 ≤ copies_in fs) factors h.copies))
   where
     within : loop.iterator < length scene.held.now
-    within = subst (λ (l : List Held). loop.iterator < length l) held h.there
+    within = subst (λ (l : List VariableSlots). loop.iterator < length l) held h.there

@@ -7,7 +7,7 @@ use Rattle.std.proofs.Math.Nat.{min-eq_left}
 use Rattle.dh_value.specs.declared.kinds.Kind.{Kind}
 use Rattle.dh_tree.specs.Counters.{counter_in, counters_of}
 use Rattle.dh_tree.specs.PlainTrees.{Program}
-use Rattle.dh_code.specs.declared.places.Held.{Held}
+use Rattle.dh_code.specs.declared.places.VariableSlots.{VariableSlots}
 use Rattle.dh_code.specs.Declarations.{Declaration, all_held, declaration_in, declared_factors, slots_counted}
 use Rattle.dh_code.specs.Ranks.{copies_in}
 use Rattle.dh_code.specs.Slots.{held_at}
@@ -36,7 +36,7 @@ behind_all (x ∷ xs) ys j = ap (λ (n : ℕ). slice_get (x ∷ (xs ++ ys)) n) (
 at_offset : (xs : List Kind) (n j : ℕ) (k : Kind) → j < n → slice_get (xs ++ replicate n k) (length xs + j) ≡ Some k
 at_offset xs n j k l = behind_all xs (replicate n k) j ∙ in_row n j k l
 
-pub kinds_begin : (p : Program) (held : List Held) (count : ℕ) (registers : List Kind) → registers ≡ [] → AreSuccessive held count → HaveKinds p held count 0 registers
+pub kinds_begin : (p : Program) (held : List VariableSlots) (count : ℕ) (registers : List Kind) → registers ≡ [] → AreSuccessive held count → HaveKinds p held count 0 registers
 kinds_begin p held count registers none s = record {
   long = ap (λ (l : List Kind). length l) none ∙ sym s.first;
   kinds = λ entity register less from to. absurd (never entity less);
@@ -45,7 +45,7 @@ kinds_begin p held count registers none s = record {
     never : (n : ℕ) → n < 0 → ⊥
     never n e = omega (arith, e)
 
-pub kinds_turn : (p : Program) (held : List Held) (count i first end : ℕ) (own k : Kind) (old new : List Kind) → first ≡ first_among held count i → end ≡ first_among held count (suc i) → own ≡ (held_at held i).kind
+pub kinds_turn : (p : Program) (held : List VariableSlots) (count i first end : ℕ) (own k : Kind) (old new : List Kind) → first ≡ first_among held count i → end ≡ first_among held count (suc i) → own ≡ (held_at held i).kind
     → IsRegisterKind (counter_in (counters_of p) (Some i)) own k → new ≡ old ++ replicate (end - first) k → AreSuccessive held count → HaveKinds p held count i old → HaveKinds p held count (i + 1) new
 kinds_turn p held count i first end own k old new first_is end_is own_is kind_is new_is s h = record { long = long; kinds = kinds }
   where
@@ -118,9 +118,9 @@ first_first : (ds : List Declaration) (count from entities : ℕ) → first_amon
 first_first ds count from zero = refl
 first_first ds count from (suc entities) = refl
 
-pub places_successive : (ds : List Declaration) (entities : ℕ) (held : List Held) (count : ℕ) → entities ≤ 2 ^ 32 → held ≡ all_held ds 0 0 entities → count ≡ slots_counted ds 0 0 entities → AreSuccessive held count
+pub places_successive : (ds : List Declaration) (entities : ℕ) (held : List VariableSlots) (count : ℕ) → entities ≤ 2 ^ 32 → held ≡ all_held ds 0 0 entities → count ≡ slots_counted ds 0 0 entities → AreSuccessive held count
 places_successive ds entities held count few is counted =
-    subst (λ (l : List Held). AreSuccessive l count) (sym is) (subst (λ (n : ℕ). AreSuccessive (all_held ds 0 0 entities) n) (sym counted) (record {
+    subst (λ (l : List VariableSlots). AreSuccessive l count) (sym is) (subst (λ (n : ℕ). AreSuccessive (all_held ds 0 0 entities) n) (sym counted) (record {
       first = first_first ds 0 0 entities;
       rising = firsts_rise ds 0 0 entities;
       few = subst (λ (n : ℕ). n ≤ 2 ^ 32) (sym (held_long ds 0 0 entities)) few;
@@ -128,7 +128,7 @@ places_successive ds entities held count few is counted =
 
 -- As the code comes to it.
 
-pub first_at : (held : List Held) (count i : ℕ) → i < length held → (held_at held i).first ≡ first_among held count i
+pub first_at : (held : List VariableSlots) (count i : ℕ) → i < length held → (held_at held i).first ≡ first_among held count i
 first_at [] count i l = absurd (none i l)
   where
     none : (n : ℕ) → n < 0 → ⊥
@@ -139,7 +139,7 @@ first_at (h ∷ held) count (suc i) l = first_at held count i (less i (length he
     less : (a b : ℕ) → suc a < suc b → a < b
     less a b e = omega (arith, e)
 
-first_past : (held : List Held) (count i : ℕ) → length held ≤ i → count ≡ first_among held count i
+first_past : (held : List VariableSlots) (count i : ℕ) → length held ≤ i → count ≡ first_among held count i
 first_past [] count i l = refl
 first_past (h ∷ held) count zero l = absurd (none (length held) l)
   where
@@ -159,13 +159,13 @@ narrow_few i l = min-eq_left (at_most i (2 ^ 32) l)
 one_suc : (i : ℕ) → i + 1 ≡ suc i
 one_suc i = omega arith
 
-pub end_before : (held : List Held) (count i end : ℕ) → i + 1 < length held → end ≡ (held_at held (i + 1)).first → end ≡ first_among held count (suc i)
+pub end_before : (held : List VariableSlots) (count i end : ℕ) → i + 1 < length held → end ≡ (held_at held (i + 1)).first → end ≡ first_among held count (suc i)
 end_before held count i end l is = is ∙ (first_at held count (i + 1) l ∙ ap (λ (n : ℕ). first_among held count n) (one_suc i))
 
-pub end_past : (held : List Held) (count i end : ℕ) → length held ≤ i + 1 → end ≡ count → end ≡ first_among held count (suc i)
+pub end_past : (held : List VariableSlots) (count i end : ℕ) → length held ≤ i + 1 → end ≡ count → end ≡ first_among held count (suc i)
 end_past held count i end l is = is ∙ (first_past held count (i + 1) l ∙ ap (λ (n : ℕ). first_among held count n) (one_suc i))
 
-pub kinds_step : (p : Program) (held : List Held) (count i entity end more : ℕ) (k : Kind) (old new : List Kind) → i < length held → entity ≡ narrowed i → end ≡ first_among held count (suc i) → more ≡ end - (held_at held i).first
+pub kinds_step : (p : Program) (held : List VariableSlots) (count i entity end more : ℕ) (k : Kind) (old new : List Kind) → i < length held → entity ≡ narrowed i → end ≡ first_among held count (suc i) → more ≡ end - (held_at held i).first
     → IsRegisterKind (counter_in (counters_of p) (Some entity)) (held_at held i).kind k → new ≡ old ++ replicate more k → (AreSuccessive held count → HaveKinds p held count i old) → AreSuccessive held count → HaveKinds p held count (i + 1) new
 kinds_step p held count i entity end more k old new within entity_is end_is more_is kind_is new_is h s =
     kinds_turn p held count i (held_at held i).first end (held_at held i).kind k old new (first_at held count i within) end_is refl
@@ -201,18 +201,18 @@ firsts_next ds count from (suc entities) (suc entity) within =
     less a b e = omega (arith, e)
 
 -- so the first of an entity that has a copy lies before the next entity's
-pub first_before : (ds : List Declaration) (entities : ℕ) (held : List Held) (count entity : ℕ) → held ≡ all_held ds 0 0 entities → count ≡ slots_counted ds 0 0 entities → entity < length held → 1 ≤ copies_in (declared_factors (declaration_in ds entity))
+pub first_before : (ds : List Declaration) (entities : ℕ) (held : List VariableSlots) (count entity : ℕ) → held ≡ all_held ds 0 0 entities → count ≡ slots_counted ds 0 0 entities → entity < length held → 1 ≤ copies_in (declared_factors (declaration_in ds entity))
     → (held_at held entity).first < first_among held count (suc entity)
 first_before ds entities held count entity is counted within copies =
     by (held_at held entity).first (copies_in (declared_factors (declaration_in ds entity))) (first_among held count (suc entity)) copies
     (ap (λ (n : ℕ). n + copies_in (declared_factors (declaration_in ds entity))) (first_at held count entity within)
-    ∙ subst (λ (l : List Held). first_among l count entity + copies_in (declared_factors (declaration_in ds entity)) ≡ first_among l count (suc entity)) (sym is)
+    ∙ subst (λ (l : List VariableSlots). first_among l count entity + copies_in (declared_factors (declaration_in ds entity)) ≡ first_among l count (suc entity)) (sym is)
     (subst (λ (n : ℕ). first_among (all_held ds 0 0 entities) n entity + copies_in (declared_factors (declaration_in ds entity)) ≡ first_among (all_held ds 0 0 entities) n (suc entity)) (sym counted)
     (subst (λ (n : ℕ). first_among (all_held ds 0 0 entities) (slots_counted ds 0 0 entities) entity + copies_in (declared_factors (declaration_in ds n)) ≡ first_among (all_held ds 0 0 entities) (slots_counted ds 0 0 entities) (suc entity)) (zero-add entity)
     (firsts_next ds 0 0 entities entity there))))
   where
     there : entity < entities
-    there = subst (λ (n : ℕ). entity < n) (ap (λ (l : List Held). length l) is ∙ held_long ds 0 0 entities) within
+    there = subst (λ (n : ℕ). entity < n) (ap (λ (l : List VariableSlots). length l) is ∙ held_long ds 0 0 entities) within
 
     by : (a n b : ℕ) → 1 ≤ n → a + n ≡ b → a < b
     by a n b l e = omega (arith, l, e)

@@ -15,7 +15,7 @@ use Rattle.dh_plan.specs.declared.operations.Operation.{Operation}
 use Rattle.dh_plan.specs.declared.operations.PlanBlock.{PlanBlock}
 use Rattle.dh_plan.specs.SeenPlans.{nodes_seen}
 use Rattle.dh_plan.specs.SoundPlans.{blocks_of}
-use Rattle.dh_code.specs.declared.places.Held.{Held}
+use Rattle.dh_code.specs.declared.places.VariableSlots.{VariableSlots}
 use Rattle.dh_expressions.specs.declared.accesses.Accesses.{Accesses}
 use Rattle.dh_expressions.specs.declared.accesses.Touched.{Touched}
 use Rattle.dh_expressions.specs.declared.paths.Paths.{Paths}
@@ -130,7 +130,7 @@ makes_phased scene count body begun final variables paths blocks p registers beg
     kinds : HaveKinds (program_seen scene.program.now) scene.held.now count (length scene.held.now) variables
     kinds = registers successive
 
-    all_behind : (held : List Held) (n : ℕ) → first_among held n (length held) ≡ n
+    all_behind : (held : List VariableSlots) (n : ℕ) → first_among held n (length held) ≡ n
     all_behind [] n = refl
     all_behind (h ∷ held) n = all_behind held n
 

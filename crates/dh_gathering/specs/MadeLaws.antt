@@ -4,7 +4,7 @@ use Rattle.std.specs.List.{AllByRecursion}
 use Rattle.dh_value.specs.declared.kinds.Kind.{Kind}
 use Rattle.dh_tree.specs.Seen.{program_seen}
 use Rattle.dh_meaning.specs.Core.{CorePhases, Turning}
-use Rattle.dh_code.specs.declared.places.Held.{Held}
+use Rattle.dh_code.specs.declared.places.VariableSlots.{VariableSlots}
 use Rattle.dh_code.specs.Declarations.{Declaration, all_held, declaration_in, declared_factors, slots_counted}
 use Rattle.dh_code.specs.Slots.{IsPlacing, Placing}
 use Rattle.dh_plan.specs.declared.operations.PlanBlock.{PlanBlock}
@@ -48,7 +48,7 @@ CountersAreOwn =
 -- the registers of a program's variables stand one behind the other
 abbrev pub RegistersFollow : Type 0
 RegistersFollow =
-    (ds : List Declaration) (entities : ℕ) (held : List Held) (count : ℕ) → entities ≤ 2 ^ 32 → held ≡ all_held ds 0 0 entities → count ≡ slots_counted ds 0 0 entities → AreSuccessive held count
+    (ds : List Declaration) (entities : ℕ) (held : List VariableSlots) (count : ℕ) → entities ≤ 2 ^ 32 → held ≡ all_held ds 0 0 entities → count ≡ slots_counted ds 0 0 entities → AreSuccessive held count
 
 -- and the counter of a loop is one of them
 abbrev pub LoopsHaveCounters : Type 0

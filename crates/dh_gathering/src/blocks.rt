@@ -116,7 +116,7 @@ pub fn straight_block(
 
 /// A block that makes a test, and the register that is then its flag.
 #[derive(Clone, Copy)]
-pub struct Tested {
+pub struct TestingBlock {
     /// The number of the block.
     pub block: u64,
     /// The register.
@@ -153,7 +153,7 @@ pub fn test_block(
     paths: &Paths,
     first: u32,
     test: &Expr,
-) -> Result<Tested, NoMemory>
+) -> Result<TestingBlock, NoMemory>
     ensures made { IfOk result (λ t. MakesTestIn scene.now paths.now made.old made.new first
         (term_seen test.now) t.flag t.block) }
     ensures once { IfOk result (λ t. NamesOnce made.old made.new (t.block ∷ [])) }
@@ -169,5 +169,5 @@ pub fn test_block(
     made.registers.push(Kind::Bool)?;
     push_first(&mut made.building.draft, test, tests.as_slice(), flag)?;
     let block = end_block(made, start)?;
-    Ok(Tested { block, flag })
+    Ok(TestingBlock { block, flag })
 }

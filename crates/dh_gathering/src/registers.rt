@@ -7,7 +7,7 @@ ghost use Rattle.dh_tree.specs.Seen.{program_seen};
 ghost use Rattle.dh_gathering.specs.Registers.{AreRegisters, IsRegisterKind};
 
 use dh_base::{Items, NoMemory};
-use dh_code::Held;
+use dh_code::VariableSlots;
 use dh_expressions::{counter_width, narrow};
 use dh_meaning::turn_count;
 use dh_tree::{Kind, Typed};
@@ -46,7 +46,7 @@ fn push_kinds(registers: &mut Items<Kind>, kind: Kind, count: u32) -> Result<(),
 pub fn registers_of(
     alloc: Global,
     program: &Typed,
-    held: &[Held],
+    held: &[VariableSlots],
     count: u32,
 ) -> Result<Items<Kind>, NoMemory>
     ensures { IfOk result (λ registers. AreRegisters (program_seen program.now) held.now count

@@ -22,7 +22,7 @@ use Rattle.dh_meaning.specs.CoreOf.{entity_number, way_of, memory_of}
 use Rattle.dh_meaning.specs.Ways.{hidden_in, Hidden}
 use Rattle.dh_code.specs.Extended.{extension_of}
 use Rattle.dh_tree.specs.Kinds.{same_kind}
-use Rattle.dh_code.specs.declared.places.Held.{Held}
+use Rattle.dh_code.specs.declared.places.VariableSlots.{VariableSlots}
 use Rattle.dh_code.specs.Slots.{held_at}
 use Rattle.dh_plan.specs.declared.operations.OperationForm.TheVariants.{Compute, Constant, Convert, Probe}
 use Rattle.dh_plan.specs.declared.operations.Reach.{Reach}
@@ -367,7 +367,7 @@ pub converted_extends : (kept : Truth) (to : Kind) (value : ℕ) (old new : Draf
 converted_extends true to value old new v m = subst (λ (d : Draft). Extends old d) (sym m.0) (extends_self old)
 converted_extends false to value old new v m = pushed_extends old new v None (Convert value to) m
 
-pub variable_extends : (c : Option Counter) (held : Held) (lane : Lane) (current : List (Option ℕ)) (k : Kind) (old new : Draft) (v : ℕ) → MadeBy c held lane current k old new v → Extends old new
+pub variable_extends : (c : Option Counter) (held : VariableSlots) (lane : Lane) (current : List (Option ℕ)) (k : Kind) (old new : Draft) (v : ℕ) → MadeBy c held lane current k old new v → Extends old new
 variable_extends None held lane current k old new v m = (shown_forms current (register_at held lane) old new v m).extends
 variable_extends (Some c) held lane current k old new v m = (iterator_forms k held old new v m.0).extends
 
@@ -384,7 +384,7 @@ operand_extends t kind.Bool value old new v m = same_extends old new m.0
 operand_extends t (kind.Unsigned w) value old new v m = (held_forms t (kind.Unsigned w) value old new v m).extends
 operand_extends t (kind.Signed w) value old new v m = (held_forms t (kind.Signed w) value old new v m).extends
 
-pub folded_extends : (lane : Lane) (current : List (Option ℕ)) (held : Held) (op : Op) (t : Term) (value : ℕ) (old new : Draft) (v : ℕ) → FoldedWith lane current held op t value old new v → Extends old new
+pub folded_extends : (lane : Lane) (current : List (Option ℕ)) (held : VariableSlots) (op : Op) (t : Term) (value : ℕ) (old new : Draft) (v : ℕ) → FoldedWith lane current held op t value old new v → Extends old new
 folded_extends lane current held op t value old new v m =
     extends_again old m.first new (shown_forms current (register_at held lane) old m.first m.before m.shown).extends
     (extends_again m.first m.second new (old_operand_extends held.kind (extension_of op held.kind (kind_written t)) m.before m.first m.second m.left m.left_made)

@@ -9,7 +9,7 @@ use Rattle.dh_tree.specs.PlainTrees as plain
 use Rattle.dh_tree.specs.PlainTrees.{Term}
 use Rattle.dh_code.specs.Extended.{extension_of}
 use Rattle.dh_tree.specs.Kinds.{same_kind}
-use Rattle.dh_code.specs.declared.places.Held.{Held}
+use Rattle.dh_code.specs.declared.places.VariableSlots.{VariableSlots}
 use Rattle.dh_plan.specs.declared.operations.ReachStep.{ReachStep}
 use Rattle.dh_expressions.specs.declared.copies.AccessAt.{AccessAt}
 use Rattle.dh_expressions.specs.declared.drafts.Draft.{Draft}
@@ -88,7 +88,7 @@ ends_faults : (k : Kind) (multiple : ℕ) (old new : Draft) (v : ℕ) → IsTher
 ends_faults k multiple old new v (inl m) = same_faults old new m.0
 ends_faults k multiple old new v (inr m) = m.pushes.faults ∙ number_faults k false m.start old m.middle m.amount m.constant
 
-iterator_faults : (k : Kind) (held : Held) (old new : Draft) (v : ℕ) → MadeIterator held k old new v → new.faults ≡ old.faults
+iterator_faults : (k : Kind) (held : VariableSlots) (old new : Draft) (v : ℕ) → MadeIterator held k old new v → new.faults ≡ old.faults
 iterator_faults k held old new v (inl m) = number_faults k false m.0 old new v m.1
 iterator_faults k held old new v (inr m) =
     ends_faults k m.multiple m.third new v m.ends
@@ -104,7 +104,7 @@ current_faults (Some (Some value)) register old new v m = same_faults old new m.
 pub shown_faults : (current : List (Option ℕ)) (register : ℕ) (old new : Draft) (v : ℕ) → MadeShown current register old new v → new.faults ≡ old.faults
 shown_faults current register old new v m = current_faults (slice_get current register) register old new v m
 
-pub variable_faults : (c : Option Counter) (held : Held) (lane : Lane) (current : List (Option ℕ)) (k : Kind) (old new : Draft) (v : ℕ) → MadeBy c held lane current k old new v → new.faults ≡ old.faults
+pub variable_faults : (c : Option Counter) (held : VariableSlots) (lane : Lane) (current : List (Option ℕ)) (k : Kind) (old new : Draft) (v : ℕ) → MadeBy c held lane current k old new v → new.faults ≡ old.faults
 variable_faults None held lane current k old new v m = shown_faults current (register_at held lane) old new v m
 variable_faults (Some c) held lane current k old new v m = iterator_faults k held old new v m.0
 
@@ -118,7 +118,7 @@ operand_faults t kind.Bool value old new v m = same_faults old new m.0
 operand_faults t (kind.Unsigned w) value old new v m = held_faults t (kind.Unsigned w) value old new v m
 operand_faults t (kind.Signed w) value old new v m = held_faults t (kind.Signed w) value old new v m
 
-pub folded_faults : (lane : Lane) (current : List (Option ℕ)) (held : Held) (op : Op) (t : Term) (value : ℕ) (old new : Draft) (v : ℕ) → FoldedWith lane current held op t value old new v → new.faults ≡ old.faults
+pub folded_faults : (lane : Lane) (current : List (Option ℕ)) (held : VariableSlots) (op : Op) (t : Term) (value : ℕ) (old new : Draft) (v : ℕ) → FoldedWith lane current held op t value old new v → new.faults ≡ old.faults
 folded_faults lane current held op t value old new v m =
     converted_faults (same_kind held.kind (extension_of op held.kind (kind_written t))) held.kind m.all m.fourth new v m.own
     ∙ (m.pushes.faults

@@ -16,7 +16,7 @@ use Rattle.dh_tree.specs.PlainTrees as plain
 use Rattle.dh_tree.specs.PlainTrees.{Term}
 use Rattle.dh_code.specs.Extended.{extension_of}
 use Rattle.dh_tree.specs.Kinds.{same_kind}
-use Rattle.dh_code.specs.declared.places.Held.{Held}
+use Rattle.dh_code.specs.declared.places.VariableSlots.{VariableSlots}
 use Rattle.dh_plan.specs.declared.operations.Operation.{Operation}
 use Rattle.dh_plan.specs.declared.operations.OperationForm.{OperationForm}
 use Rattle.dh_plan.specs.declared.operations.OperationForm.TheVariants.{Check, Compute, Constant, Convert, Old, Probe, Read, Select, Set, Write}
@@ -131,7 +131,7 @@ operand_faultless t kind.Bool value old new v m = faultless_none old new m.0
 operand_faultless t (kind.Unsigned w) value old new v m = held_faultless t (kind.Unsigned w) value old new v m
 operand_faultless t (kind.Signed w) value old new v m = held_faultless t (kind.Signed w) value old new v m
 
-pub folded_faultless : (lane : Lane) (current : List (Option ℕ)) (held : Held) (op : Op) (t : Term) (value : ℕ) (old new : Draft) (v : ℕ) → FoldedWith lane current held op t value old new v → AddsFaultless old new
+pub folded_faultless : (lane : Lane) (current : List (Option ℕ)) (held : VariableSlots) (op : Op) (t : Term) (value : ℕ) (old new : Draft) (v : ℕ) → FoldedWith lane current held op t value old new v → AddsFaultless old new
 folded_faultless lane current held op t value old new v m =
     faultless_again old m.first new (shown_faultless current (register_at held lane) old m.first m.before m.shown)
     (faultless_again m.first m.second new (old_operand_faultless held.kind (extension_of op held.kind (kind_written t)) m.before m.first m.second m.left m.left_made)

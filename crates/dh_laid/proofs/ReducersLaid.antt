@@ -9,7 +9,7 @@ use Rattle.dh_value.specs.Words.{IsInteger}
 use Rattle.dh_tree.specs.PlainTrees.{Term}
 use Rattle.dh_code.specs.Extended.{extension_of}
 use Rattle.dh_tree.specs.Kinds.{same_kind}
-use Rattle.dh_code.specs.declared.places.Held.{Held}
+use Rattle.dh_code.specs.declared.places.VariableSlots.{VariableSlots}
 use Rattle.dh_code.specs.Slots.{held_at}
 use Rattle.dh_plan.specs.Blocks.{kind_at}
 use Rattle.dh_expressions.specs.declared.drafts.Draft.{Draft}
@@ -70,7 +70,7 @@ record FoldsThere (x : FormedBlock) (old : Draft) (current : List (Option ℕ)) 
   shows : AllHold x old current
   given : HasKind x old (kind_written t) value
 
-folded_forms : (lane : Lane) (current : List (Option ℕ)) (held : Held) (op : Op) (t : Term) (value : ℕ) (old new : Draft) (v : ℕ)
+folded_forms : (lane : Lane) (current : List (Option ℕ)) (held : VariableSlots) (op : Op) (t : Term) (value : ℕ) (old new : Draft) (v : ℕ)
     → FoldedWith lane current held op t value old new v → FormsValue old new v (λ x. FoldsThere x old current (register_at held lane) held.kind op t value) (λ x. held.kind)
 folded_forms lane current held op t value old new v f =
     let to : Kind = extension_of op held.kind (kind_written t) in

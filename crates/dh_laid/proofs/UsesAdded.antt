@@ -13,7 +13,7 @@ use Rattle.dh_value.specs.Operations.{truth}
 use Rattle.dh_tree.specs.PlainTrees.{Term}
 use Rattle.dh_code.specs.Extended.{extension_of}
 use Rattle.dh_tree.specs.Kinds.{same_kind}
-use Rattle.dh_code.specs.declared.places.Held.{Held}
+use Rattle.dh_code.specs.declared.places.VariableSlots.{VariableSlots}
 use Rattle.dh_plan.specs.declared.operations.Operation.{Operation}
 use Rattle.dh_plan.specs.declared.operations.OperationForm.{OperationForm}
 use Rattle.dh_plan.specs.declared.operations.OperationForm.TheVariants.{Check, Compute, Constant, Convert, Old, Probe, Read, Select, Set, Write}
@@ -284,7 +284,7 @@ module _ (scene : Scene) (sites : ℕ → Option BlockSite) where
   operand_used t (kind.Unsigned w) value old new v m = held_used t (kind.Unsigned w) value old new v m
   operand_used t (kind.Signed w) value old new v m = held_used t (kind.Signed w) value old new v m
 
-  pub folded_used : (lane : Lane) (current : List (Option ℕ)) (held : Held) (op : Op) (t : Term) (value : ℕ) (old new : Draft) (v : ℕ) → FoldedWith lane current held op t value old new v → AddsNone old new
+  pub folded_used : (lane : Lane) (current : List (Option ℕ)) (held : VariableSlots) (op : Op) (t : Term) (value : ℕ) (old new : Draft) (v : ℕ) → FoldedWith lane current held op t value old new v → AddsNone old new
   folded_used lane current held op t value old new v m =
       none_again old m.first new (shown_used current (register_at held lane) old m.first m.before m.shown)
       (none_again m.first m.second new (old_operand_used held.kind (extension_of op held.kind (kind_written t)) m.before m.first m.second m.left m.left_made)

@@ -25,8 +25,8 @@ use Rattle.dh_lengths.specs.declared.leads.Leads.{Leads}
 use Rattle.dh_lengths.specs.LedBy.{IsLedBy}
 use Rattle.dh_events.specs.Tables.{table_at, with_number}
 use Rattle.dh_events.proofs.Turns.{at_item}
-use Rattle.dh_lengths.specs.declared.held.Held.{Held}
-use Rattle.dh_lengths.specs.declared.undoing.Mark.{Mark}
+use Rattle.dh_lengths.specs.declared.held.PhaseLevels.{PhaseLevels}
+use Rattle.dh_lengths.specs.declared.undoing.LevelMark.{LevelMark}
 use Rattle.dh_lengths.specs.SharedReads.{told}
 use Rattle.dh_lengths.specs.Undone.{has_mark, joined_all, mark, marks_with_levels, redone, undone_levels}
 use Rattle.dh_lengths.specs.HeldLevels.{zero_levels, read_in, variable_in, levels_of, levels_seen, held_access_count, leveled_with, LevelsAreSmall, AssignsLevel, HasSoundLevels, KeepsVariableLevels, GivesLevel, GivesLevels, LevelsTerm}
@@ -72,10 +72,10 @@ sum_of a b c m n e f = omega (arith, e, f)
 
 -- No command, and commands that set no variable.
 
-pub gives_nothing : (h : Held) (outer : ℕ) → HasSoundLevels h → GivesCommands h h outer no_commands 0
+pub gives_nothing : (h : PhaseLevels) (outer : ℕ) → HasSoundLevels h → GivesCommands h h outer no_commands 0
 gives_nothing h outer s = record { seen = refl; sound = s; counted = plus_none (held_access_count h); shares = refl; first = refl; changes = []; log = sym (append-nil h.log.items); undoes = refl; marks = λ e. refl }
 
-pub gives_skipped : (old new : Held) (outer n : ℕ) → GivesLevels old new (levels_seen old) n → GivesCommands old new outer no_commands n
+pub gives_skipped : (old new : PhaseLevels) (outer n : ℕ) → GivesLevels old new (levels_seen old) n → GivesCommands old new outer no_commands n
 gives_skipped old new outer n g = record {
   seen = g.seen;
   sound = g.sound;
@@ -88,7 +88,7 @@ gives_skipped old new outer n g = record {
   marks = λ e. refl;
 }
 
-gives_one : (old new : Held) (outer n : ℕ) (c : CoreCommand) → ((e : ℕ) → assigns_to e c ≡ false) → GivesLevels old new (command_leveled (told old.shares.now) outer c (levels_seen old)) n → GivesCommands old new outer (command_and c no_commands) n
+gives_one : (old new : PhaseLevels) (outer n : ℕ) (c : CoreCommand) → ((e : ℕ) → assigns_to e c ≡ false) → GivesLevels old new (command_leveled (told old.shares.now) outer c (levels_seen old)) n → GivesCommands old new outer (command_and c no_commands) n
 gives_one old new outer n c none g = record {
   seen = g.seen;
   sound = g.sound;
@@ -110,12 +110,12 @@ store_sets known n (plain.term at kind (plain.named r)) v e = refl
 store_sets known n (plain.term at kind (plain.applied o left right)) v e = refl
 store_sets known n (plain.term at kind (plain.converted inner to)) v e = refl
 
-pub gives_store : (old new : Held) (outer n m : ℕ) (known : Known) (t : Term) (v : CoreTerm) → GivesLevels old new (command_leveled (told old.shares.now) outer (store_to known m t v) (levels_seen old)) n → GivesCommands old new outer (command_and (store_to known m t v) no_commands) n
+pub gives_store : (old new : PhaseLevels) (outer n m : ℕ) (known : Known) (t : Term) (v : CoreTerm) → GivesLevels old new (command_leveled (told old.shares.now) outer (store_to known m t v) (levels_seen old)) n → GivesCommands old new outer (command_and (store_to known m t v) no_commands) n
 gives_store old new outer n m known t v g = gives_one old new outer n (store_to known m t v) (store_sets known m t v) g
 
 -- A variable is set.
 
-pub gives_assign : (old mid new : Held) (outer depth level n : ℕ) (entity : Option ℕ) (v : CoreTerm) → GivesLevel old mid (term_leveled (told old.shares.now) outer v (levels_seen old)) level n → AssignsLevel mid new entity level
+pub gives_assign : (old mid new : PhaseLevels) (outer depth level n : ℕ) (entity : Option ℕ) (v : CoreTerm) → GivesLevel old mid (term_leveled (told old.shares.now) outer v (levels_seen old)) level n → AssignsLevel mid new entity level
     → GivesCommands old new outer (command_and (assign depth (entity_number entity) v) no_commands) n
 gives_assign old mid new outer depth level n entity v g a =
     let i = term_leveled (told old.shares.now) outer v (levels_seen old) in
@@ -141,7 +141,7 @@ gives_assign old mid new outer depth level n entity v g a =
       marks = λ x. ap (λ b. b || false) (number_swap e x);
     }
 
-pub gives_reduce : {ways : Leads} (old mid new : Held) (outer now first level : ℕ) (r : Ref) (value : Expr) → now ≡ variable_in old.variables.items r.entity → level ≡ max now first → LevelsTerm ways old mid outer value first → AssignsLevel mid new r.entity level → LevelsReduce ways old new outer r value
+pub gives_reduce : {ways : Leads} (old mid new : PhaseLevels) (outer now first level : ℕ) (r : Ref) (value : Expr) → now ≡ variable_in old.variables.items r.entity → level ≡ max now first → LevelsTerm ways old mid outer value first → AssignsLevel mid new r.entity level → LevelsReduce ways old new outer r value
 gives_reduce old mid new outer now first level r value held most one a known u s low o =
     let l = levels_seen old in
     let v = core_term known (held_access_count old) (term_seen value) in
@@ -162,7 +162,7 @@ pub record AreBoth (cs ds es : CoreCommands) : Type 0 where
   pub levels : (shared : ℕ → Option ℕ) (outer : ℕ) (l : Levels) → commands_leveled shared outer es l ≡ commands_leveled shared outer ds (commands_leveled shared outer cs l)
   pub assigns : (e : ℕ) → any_assigns e es ≡ (any_assigns e cs || any_assigns e ds)
 
-pub gives_both : (a b c : Held) (outer m n : ℕ) (cs ds es : CoreCommands) → AreBoth cs ds es → GivesCommands a b outer cs m → GivesCommands b c outer ds n → GivesCommands a c outer es (m + n)
+pub gives_both : (a b c : PhaseLevels) (outer m n : ℕ) (cs ds es : CoreCommands) → AreBoth cs ds es → GivesCommands a b outer cs m → GivesCommands b c outer ds n → GivesCommands a c outer es (m + n)
 gives_both a b c outer m n cs ds es both g h = record {
   seen = h.seen ∙ (ap (λ x. commands_leveled (told x) outer ds (levels_seen b)) g.shares ∙ (ap (λ x. commands_leveled (told a.shares.now) outer ds x) g.seen ∙ sym (both.levels (told a.shares.now) outer (levels_seen a))));
   sound = h.sound;
@@ -229,17 +229,17 @@ module _ (known : Known) where
 
 -- Loops: what the rest comes to from here, all come to.
 
-pub record PartSo (ways : Leads) (known : Known) (start now : Held) (outer : ℕ) (rest all : List Command) : Type 0 where
+pub record PartSo (ways : Leads) (known : Known) (start now : PhaseLevels) (outer : ℕ) (rest all : List Command) : Type 0 where
   pub led : IsLedBy ways known
   pub sound : HasSoundLevels now
   pub within : outer ≤ held_access_count now
-  pub so : (new : Held) → GivesCommands now new outer (core_part known (held_access_count now) (actions (map action_seen rest)) no_commands) (part_accesses (actions (map action_seen rest)))
+  pub so : (new : PhaseLevels) → GivesCommands now new outer (core_part known (held_access_count now) (actions (map action_seen rest)) no_commands) (part_accesses (actions (map action_seen rest)))
       → GivesCommands start new outer (core_part known (held_access_count start) (actions (map action_seen all)) no_commands) (part_accesses (actions (map action_seen all)))
 
-pub part_begin : {ways : Leads} (known : Known) (h : Held) (outer : ℕ) (all : List Command) → IsLedBy ways known → HasSoundLevels h → outer ≤ held_access_count h → PartSo ways known h h outer all all
+pub part_begin : {ways : Leads} (known : Known) (h : PhaseLevels) (outer : ℕ) (all : List Command) → IsLedBy ways known → HasSoundLevels h → outer ≤ held_access_count h → PartSo ways known h h outer all all
 part_begin known h outer all u s low = record { led = u; sound = s; within = low; so = λ new g. g }
 
-pub part_turn : {ways : Leads} (known : Known) (start now next : Held) (outer : ℕ) (all : List Command) (i : ℕ) (c : Command) → i < length all → c ≡ get_or all i c → LevelsCommand ways now next outer c → PartSo ways known start now outer (drop i all) all → PartSo ways known start next outer (drop (i + 1) all) all
+pub part_turn : {ways : Leads} (known : Known) (start now next : PhaseLevels) (outer : ℕ) (all : List Command) (i : ℕ) (c : Command) → i < length all → c ≡ get_or all i c → LevelsCommand ways now next outer c → PartSo ways known start now outer (drop i all) all → PartSo ways known start next outer (drop (i + 1) all) all
 part_turn known start now next outer all i c within is one h =
     let g = one known h.led h.sound h.within in
     let a = action_seen c in
@@ -256,21 +256,21 @@ part_turn known start now next outer all i c within is one h =
           (subst (λ (n : ℕ). GivesCommands next new outer (core_part known n rest no_commands) (part_accesses rest)) g.counted behind)));
     }
 
-pub part_end : {ways : Leads} (known : Known) (start now : Held) (outer : ℕ) (rest all : List Command) → rest ≡ [] → PartSo ways known start now outer rest all
+pub part_end : {ways : Leads} (known : Known) (start now : PhaseLevels) (outer : ℕ) (rest all : List Command) → rest ≡ [] → PartSo ways known start now outer rest all
     → GivesCommands start now outer (core_part known (held_access_count start) (actions (map action_seen all)) no_commands) (part_accesses (actions (map action_seen all)))
 part_end known start now outer rest all none h =
     h.so now (subst (λ (l : List Command). GivesCommands now now outer (core_part known (held_access_count now) (actions (map action_seen l)) no_commands) (part_accesses (actions (map action_seen l)))) (sym none) (gives_nothing now outer h.sound))
 
-pub record GroupsSo (known : Known) (start now : Held) (outer : ℕ) (rest all : List (Vec Command Global)) : Type 0 where
+pub record GroupsSo (known : Known) (start now : PhaseLevels) (outer : ℕ) (rest all : List (Vec Command Global)) : Type 0 where
   pub sound : HasSoundLevels now
   pub within : outer ≤ held_access_count now
-  pub so : (new : Held) → GivesCommands now new outer (core_groups known (held_access_count now) (groups (map part_seen rest)) no_commands) (groups_accesses (groups (map part_seen rest)))
+  pub so : (new : PhaseLevels) → GivesCommands now new outer (core_groups known (held_access_count now) (groups (map part_seen rest)) no_commands) (groups_accesses (groups (map part_seen rest)))
       → GivesCommands start new outer (core_groups known (held_access_count start) (groups (map part_seen all)) no_commands) (groups_accesses (groups (map part_seen all)))
 
-pub groups_begin : (known : Known) (h : Held) (outer : ℕ) (all : List (Vec Command Global)) → HasSoundLevels h → outer ≤ held_access_count h → GroupsSo known h h outer all all
+pub groups_begin : (known : Known) (h : PhaseLevels) (outer : ℕ) (all : List (Vec Command Global)) → HasSoundLevels h → outer ≤ held_access_count h → GroupsSo known h h outer all all
 groups_begin known h outer all s low = record { sound = s; within = low; so = λ new g. g }
 
-pub groups_turn : (known : Known) (start now next : Held) (outer : ℕ) (all : List (Vec Command Global)) (i : ℕ) (part : Vec Command Global) → i < length all → part ≡ get_or all i part
+pub groups_turn : (known : Known) (start now next : PhaseLevels) (outer : ℕ) (all : List (Vec Command Global)) (i : ℕ) (part : Vec Command Global) → i < length all → part ≡ get_or all i part
     → (HasSoundLevels now → outer ≤ held_access_count now → GivesCommands now next outer (core_part known (held_access_count now) (part_seen part) no_commands) (part_accesses (part_seen part))) → GroupsSo known start now outer (drop i all) all → GroupsSo known start next outer (drop (i + 1) all) all
 groups_turn known start now next outer all i part within is one h =
     let g = one h.sound h.within in
@@ -286,20 +286,20 @@ groups_turn known start now next outer all i part within is one h =
           (subst (λ (n : ℕ). GivesCommands next new outer (core_groups known n rest no_commands) (groups_accesses rest)) g.counted behind)));
     }
 
-pub groups_end : (known : Known) (start now : Held) (outer : ℕ) (rest all : List (Vec Command Global)) → rest ≡ [] → GroupsSo known start now outer rest all
+pub groups_end : (known : Known) (start now : PhaseLevels) (outer : ℕ) (rest all : List (Vec Command Global)) → rest ≡ [] → GroupsSo known start now outer rest all
     → GivesCommands start now outer (core_groups known (held_access_count start) (groups (map part_seen all)) no_commands) (groups_accesses (groups (map part_seen all)))
 groups_end known start now outer rest all none h =
     h.so now (subst (λ (l : List (Vec Command Global)). GivesCommands now now outer (core_groups known (held_access_count now) (groups (map part_seen l)) no_commands) (groups_accesses (groups (map part_seen l)))) (sym none) (gives_nothing now outer h.sound))
 
 -- a command by what is seen of its form
-module _ (old new : Held) (outer : ℕ) (c : Command) where
+module _ (old new : PhaseLevels) (outer : ℕ) (c : Command) where
   abbrev FormGives : Known → ActionForm → Type 0
   FormGives known f = GivesCommands old new outer (core_action_form known (held_access_count old) f no_commands) (own_accesses f + inner_accesses f)
 
   pub by_form : {ways : Leads} (f : ActionForm) → action_form_seen c.form ≡ f → ((known : Known) → IsLedBy ways known → HasSoundLevels old → outer ≤ held_access_count old → FormGives known f) → LevelsCommand ways old new outer c
   by_form f is h known u s low = subst (λ (x : ActionForm). FormGives known x) (sym is) (h known u s low)
 
-pub with_count : (old new : Held) (outer m n : ℕ) (cs : CoreCommands) → m ≡ n → GivesCommands old new outer cs m → GivesCommands old new outer cs n
+pub with_count : (old new : PhaseLevels) (outer m n : ℕ) (cs : CoreCommands) → m ≡ n → GivesCommands old new outer cs m → GivesCommands old new outer cs n
 with_count old new outer m n cs e g = subst (λ (k : ℕ). GivesCommands old new outer cs k) e g
 
 -- An `if`.
@@ -310,20 +310,20 @@ choice_of shared outer chosen other t =
     (commands_leveled shared (max outer t.level) other (with_variables (commands_leveled shared (max outer t.level) chosen t.levels) t.levels.variables))
 
 -- but for its variables, one state is another
-pub record SameReads (old new : Held) : Type 0 where
+pub record SameReads (old new : PhaseLevels) : Type 0 where
   pub reads : new.reads.items ≡ old.reads.items
   pub shares : new.shares.now ≡ old.shares.now
   pub first : new.first ≡ old.first
   pub most : new.most ≡ old.most
   pub log : new.log.items ≡ old.log.items
 
-variables_put : (old new : Held) (f : ℕ → ℕ) → SameReads old new → table_at new.variables.items ≡ f → levels_seen new ≡ with_variables (levels_seen old) f
+variables_put : (old new : PhaseLevels) (f : ℕ → ℕ) → SameReads old new → table_at new.variables.items ≡ f → levels_seen new ≡ with_variables (levels_seen old) f
 variables_put old new f same is =
     ap (λ l. levels_of l new.first new.most new.variables.items) same.reads
     ∙ (ap (λ n. levels_of old.reads.items n new.most new.variables.items) same.first
     ∙ (ap (λ n. levels_of old.reads.items old.first n new.variables.items) same.most ∙ ap (λ (g : ℕ → ℕ). record { variables = g; reads = read_in old.reads.items old.first; most = old.most }) is))
 
-put_sound : (old new : Held) (f : ℕ → ℕ) → SameReads old new → table_at new.variables.items ≡ f → ((e : ℕ) → f e ≤ held_access_count old) → HasSoundLevels old → HasSoundLevels new
+put_sound : (old new : PhaseLevels) (f : ℕ → ℕ) → SameReads old new → table_at new.variables.items ≡ f → ((e : ℕ) → f e ≤ held_access_count old) → HasSoundLevels old → HasSoundLevels new
 put_sound old new f same is low s =
     let many : held_access_count new ≡ held_access_count old = ap length same.reads in
     record {
@@ -332,7 +332,7 @@ put_sound old new f same is low s =
           (record { variables = low; reads = s.small.reads; most = s.small.most }));
     }
 
-since_seam : (xs ys zs : List Mark) → zs ≡ xs ++ ys → drop (length xs) zs ≡ ys
+since_seam : (xs ys zs : List LevelMark) → zs ≡ xs ++ ys → drop (length xs) zs ≡ ys
 since_seam xs ys zs e = ap (drop (length xs)) e ∙ drop-append_seam xs ys
 
 regroup : (o a b c k m n : ℕ) → a ≡ o + k → b ≡ a + m → c ≡ b + n → c ≡ o + (k + (m + n))
@@ -345,7 +345,7 @@ inside_low : (a b n : ℕ) → a ≤ n → b ≤ n → max a b ≤ n
 inside_low a b n e f = grind (arith, e, f)
 
 -- the arms, from behind the test on
-pub record Arms (old : Held) (outer : ℕ) (chosen other : CoreCommands) (level inside m n : ℕ) (b b1 c d : Held) : Type 0 where
+pub record Arms (old : PhaseLevels) (outer : ℕ) (chosen other : CoreCommands) (level inside m n : ℕ) (b b1 c d : PhaseLevels) : Type 0 where
   pub in_is : inside ≡ max level outer
   pub one : HasSoundLevels old → inside ≤ held_access_count old → GivesCommands old b inside chosen m
   pub back : SameReads b b1
@@ -356,7 +356,7 @@ pub record Arms (old : Held) (outer : ℕ) (chosen other : CoreCommands) (level 
       ≡ joined_all level (marks_with_levels (table_at c.variables.items) (drop (length old.log.items) c.log.items))
       (redone (marks_with_levels (table_at b.variables.items) (drop (length old.log.items) b.log.items)) (undone_levels (drop (length b1.log.items) c.log.items) (table_at c.variables.items)))
 
-module _ (a b b1 c d : Held) (outer level inside m n : ℕ) (chosen other : CoreCommands) (s : HasSoundLevels a) (low : outer ≤ held_access_count a) (level_low : level ≤ held_access_count a) (x : Arms a outer chosen other level inside m n b b1 c d) where
+module _ (a b b1 c d : PhaseLevels) (outer level inside m n : ℕ) (chosen other : CoreCommands) (s : HasSoundLevels a) (low : outer ≤ held_access_count a) (level_low : level ≤ held_access_count a) (x : Arms a outer chosen other level inside m n b b1 c d) where
   in_low : inside ≤ held_access_count a
   in_low = subst (λ (k : ℕ). k ≤ held_access_count a) (sym x.in_is) (inside_low level outer (held_access_count a) level_low low)
 
@@ -441,7 +441,7 @@ module _ (a b b1 c d : Held) (outer level inside m n : ℕ) (chosen other : Core
   rest_same : (e : ℕ) → (has_mark e first_arm.changes || has_mark e second_arm.changes) ≡ false → table_at d.variables.items e ≡ table_at a.variables.items e
   rest_same e h = behind_at e ∙ ap (λ t. if t then max level (max (table_at b.variables.items e) (table_at c.variables.items e)) else table_at a.variables.items e) h
 
-pub gives_choice : (old a b b1 c d : Held) (outer level inside k m n : ℕ) (test : CoreTerm) (chosen other : CoreCommands) → outer ≤ held_access_count old → GivesLevel old a (term_leveled (told old.shares.now) outer test (levels_seen old)) level k
+pub gives_choice : (old a b b1 c d : PhaseLevels) (outer level inside k m n : ℕ) (test : CoreTerm) (chosen other : CoreCommands) → outer ≤ held_access_count old → GivesLevel old a (term_leveled (told old.shares.now) outer test (levels_seen old)) level k
     → Arms a outer chosen other level inside m n b b1 c d → GivesCommands old d outer (command_and (choose test chosen other) no_commands) (k + (m + n))
 gives_choice old a b b1 c d outer level inside k m n test chosen other low t x =
     let low_a = counts_on (held_access_count old) (held_access_count a) k outer t.counted low in
@@ -468,21 +468,21 @@ pub inside_fits : (inside level outer n : ℕ) → inside ≡ max level outer �
 inside_fits inside level outer n is e f = subst (λ (k : ℕ). k ≤ n) (sym is) (inside_low level outer n e f)
 
 -- what the lists of the code are
-pub all_joined : (level : ℕ) (final back set fb fc : ℕ → ℕ) (others chosen arm both last : List Mark) → final ≡ joined_all level others set → others ≡ marks_with_levels fc both → set ≡ redone chosen back → chosen ≡ marks_with_levels fb arm → back ≡ undone_levels last fc
+pub all_joined : (level : ℕ) (final back set fb fc : ℕ → ℕ) (others chosen arm both last : List LevelMark) → final ≡ joined_all level others set → others ≡ marks_with_levels fc both → set ≡ redone chosen back → chosen ≡ marks_with_levels fb arm → back ≡ undone_levels last fc
     → final ≡ joined_all level (marks_with_levels fc both) (redone (marks_with_levels fb arm) (undone_levels last fc))
 all_joined level final back set fb fc others chosen arm both last is others_are set_is chosen_are back_is =
     is
     ∙ (ap (λ l. joined_all level l set) others_are
     ∙ ap (joined_all level (marks_with_levels fc both)) (set_is ∙ (ap (λ l. redone l back) chosen_are ∙ ap (redone (marks_with_levels fb arm)) back_is)))
 
-pub since_is : (xs ys now : List Mark) (mark n : ℕ) → now ≡ drop mark xs → xs ≡ ys → mark ≡ n → now ≡ drop n ys
+pub since_is : (xs ys now : List LevelMark) (mark n : ℕ) → now ≡ drop mark xs → xs ≡ ys → mark ≡ n → now ≡ drop n ys
 since_is xs ys now mark n is same at = is ∙ (ap (drop mark) same ∙ ap (λ k. drop k ys) at)
 
 pub counts_arm : (o a b k m : ℕ) → a ≡ o + k → b ≡ a + m → b ≡ o + k + m
 counts_arm o a b k m e f = omega (arith, e, f)
 
-abbrev pub put_variables : Held → Vec ℕ Global → Held
+abbrev pub put_variables : PhaseLevels → Vec ℕ Global → PhaseLevels
 put_variables h v = record { shares = h.shares; reads = h.reads; first = h.first; most = h.most; variables = v; log = h.log }
 
-abbrev pub put_reads : Held → Vec ℕ Global → Held
+abbrev pub put_reads : PhaseLevels → Vec ℕ Global → PhaseLevels
 put_reads h v = record { shares = h.shares; reads = v; first = h.first; most = h.most; variables = h.variables; log = h.log }

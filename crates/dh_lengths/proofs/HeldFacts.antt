@@ -9,7 +9,7 @@ use Rattle.dh_meaning.specs.Core.{Reach}
 use Rattle.dh_meaning.specs.CoreOf.{entity_number}
 use Rattle.dh_meaning.specs.Levels.{Levels, Leveled, level_ground, read_at, read_leveled, with_value, with_variables}
 use Rattle.dh_events.specs.Tables.{table_at, with_number}
-use Rattle.dh_lengths.specs.declared.held.Held.{Held}
+use Rattle.dh_lengths.specs.declared.held.PhaseLevels.{PhaseLevels}
 use Rattle.dh_lengths.specs.SharedReads.{told}
 use Rattle.dh_lengths.specs.Undone.{mark, undone_levels}
 use Rattle.dh_lengths.specs.HeldLevels.{zero_levels, read_in, variable_in, levels_of, levels_seen, held_access_count, leveled_with, LevelsAreSmall, HasSoundLevels, KeepsVariableLevels, GivesLevel, GivesLevels, AssignsAt, Skips}
@@ -129,10 +129,10 @@ small_more n k l s = record { variables = λ e. up_many (l.variables e) n k (s.v
 
 -- Reads.
 
-abbrev read_more_of : (old : Held) → (level : ℕ) → Levels
+abbrev read_more_of : (old : PhaseLevels) → (level : ℕ) → Levels
 read_more_of old level = record { variables = (levels_seen old).variables; reads = with_value (levels_seen old).reads (held_access_count old) level; most = max (levels_seen old).most level }
 
-read_small : (old : Held) (level : ℕ) → HasSoundLevels old → level ≤ held_access_count old + 1 → LevelsAreSmall (held_access_count old + 1) (read_more_of old level)
+read_small : (old : PhaseLevels) (level : ℕ) → HasSoundLevels old → level ≤ held_access_count old + 1 → LevelsAreSmall (held_access_count old + 1) (read_more_of old level)
 read_small old level s low = record {
   variables = λ e. up_one (table_at old.variables.items e) (held_access_count old) (s.small.variables e);
   reads = λ k. if_low (k == held_access_count old) level (read_in old.reads.items old.first k) (held_access_count old + 1) low (up_one (read_in old.reads.items old.first k) (held_access_count old) (s.small.reads k));
@@ -140,7 +140,7 @@ read_small old level s low = record {
 }
 
 -- a read of a level
-read_gives : (old new : Held) (r : Reach) (level : ℕ) → r.number ≡ held_access_count old → HasSoundLevels old → level ≤ held_access_count old + 1 → new.reads.items ≡ old.reads.items ++ level ∷ [] → new.most ≡ max old.most level → KeepsVariableLevels old new
+read_gives : (old new : PhaseLevels) (r : Reach) (level : ℕ) → r.number ≡ held_access_count old → HasSoundLevels old → level ≤ held_access_count old + 1 → new.reads.items ≡ old.reads.items ++ level ∷ [] → new.most ≡ max old.most level → KeepsVariableLevels old new
     → GivesLevel old new (read_at r level (levels_seen old)) level 1
 read_gives old new r level numbers s low added most keeps =
     let many : held_access_count new ≡ held_access_count old + 1 = ap length added ∙ one_longer old.reads.items level in
@@ -163,11 +163,11 @@ read_gives old new r level numbers s low added most keeps =
     }
 
 -- the level of the next read
-abbrev next_level : (old : Held) → (outer indices : ℕ) → Option ℕ → ℕ
+abbrev next_level : (old : PhaseLevels) → (outer indices : ℕ) → Option ℕ → ℕ
 next_level old outer indices None = suc (max indices outer)
 next_level old outer indices (Some earlier) = read_in old.reads.items old.first earlier
 
-pub read_next : (old new : Held) (outer indices level : ℕ) (o : Option ℕ) → told old.shares.now (held_access_count old) ≡ o → (outer ≤ held_access_count old → indices ≤ held_access_count old → level ≡ next_level old outer indices o)
+pub read_next : (old new : PhaseLevels) (outer indices level : ℕ) (o : Option ℕ) → told old.shares.now (held_access_count old) ≡ o → (outer ≤ held_access_count old → indices ≤ held_access_count old → level ≡ next_level old outer indices o)
     → new.reads.items ≡ old.reads.items ++ level ∷ [] → new.most ≡ max old.most level → KeepsVariableLevels old new
     → (r : Reach) → r.number ≡ held_access_count old → HasSoundLevels old → outer ≤ held_access_count old → indices ≤ held_access_count old → GivesLevel old new (read_leveled (told old.shares.now) outer r (leveled_with indices (levels_seen old))) level 1
 read_next old new outer indices level o share is added most keeps r numbers s outer_low indices_low =
@@ -192,7 +192,7 @@ within_count a b n e f = grind (arith, e, f)
 
 -- Accesses of level 0.
 
-pub skips_gives : (old new : Held) (n : ℕ) → HasSoundLevels old → Skips old new n → GivesLevels old new (levels_seen old) n
+pub skips_gives : (old new : PhaseLevels) (n : ℕ) → HasSoundLevels old → Skips old new n → GivesLevels old new (levels_seen old) n
 skips_gives old new n s k =
     let many : held_access_count new ≡ held_access_count old + n = ap length k.reads ∙ zeros_long old.reads.items n in
     let seen : levels_seen new ≡ levels_seen old =
@@ -213,7 +213,7 @@ skips_gives old new n s k =
 
 -- Variables.
 
-pub assigns : (old new : Held) (place before level : ℕ) → before ≡ table_at old.variables.items place → table_at new.variables.items ≡ with_number (table_at old.variables.items) place level
+pub assigns : (old new : PhaseLevels) (place before level : ℕ) → before ≡ table_at old.variables.items place → table_at new.variables.items ≡ with_number (table_at old.variables.items) place level
     → new.log.items ≡ old.log.items ++ mark place before ∷ [] → new.reads.items ≡ old.reads.items → new.shares.now ≡ old.shares.now → new.first ≡ old.first → new.most ≡ old.most → AssignsAt old new place level
 assigns old new place before level before_is set log reads shares first most = record {
   seen =

@@ -13,7 +13,7 @@ use Rattle.dh_meaning.specs.Ways.{Hidden}
 use Rattle.dh_lengths.specs.declared.leads.Leads.{Leads}
 use Rattle.dh_events.specs.Tables.{table_at}
 use Rattle.dh_events.proofs.Turns.{at_place}
-use Rattle.dh_lengths.specs.declared.held.Held.{Held}
+use Rattle.dh_lengths.specs.declared.held.PhaseLevels.{PhaseLevels}
 use Rattle.dh_lengths.specs.LedBy.{IsLedBy}
 use Rattle.dh_lengths.specs.SharedReads.{told}
 use Rattle.dh_lengths.specs.Undone.{has_mark, mark, undone_levels}
@@ -57,12 +57,12 @@ none_between first e = grind (arith, nat_tests)
 one_more : (first n e : ℕ) → ((nat_le (first + 1) e && nat_lt e (first + 1 + n)) || ((first == e) || false)) ≡ (nat_le first e && nat_lt e (first + suc n))
 one_more first n e = grind (arith, nat_tests)
 
-sets_none : (h : Held) (first : ℕ) (levels : List ℕ) → levels ≡ [] → SetsLevels h h first levels
+sets_none : (h : PhaseLevels) (first : ℕ) (levels : List ℕ) → levels ≡ [] → SetsLevels h h first levels
 sets_none h first levels none =
     subst (λ (l : List ℕ). SetsLevels h h first l) (sym none)
     (record { seen = refl; reads = refl; shares = refl; begun = refl; changes = []; log = sym (append-nil h.log.items); undoes = refl; marks = λ e. sym (none_between first e) })
 
-sets_more : (old mid new : Held) (first v : ℕ) (vs levels : List ℕ) → levels ≡ v ∷ vs → SetsLevels old mid (first + 1) vs → AssignsAt mid new first v → SetsLevels old new first levels
+sets_more : (old mid new : PhaseLevels) (first v : ℕ) (vs levels : List ℕ) → levels ≡ v ∷ vs → SetsLevels old mid (first + 1) vs → AssignsAt mid new first v → SetsLevels old new first levels
 sets_more old mid new first v vs levels is s a =
     subst (λ (l : List ℕ). SetsLevels old new first l) (sym is)
     (record {
@@ -81,20 +81,20 @@ sets_more old mid new first v vs levels is s a =
     })
 
 -- one more of them, from the last on
-pub sets_begin : (h : Held) (first n : ℕ) (levels : List ℕ) → n ≡ length levels → SetsLevels h h (first + n) (drop n levels)
+pub sets_begin : (h : PhaseLevels) (first n : ℕ) (levels : List ℕ) → n ≡ length levels → SetsLevels h h (first + n) (drop n levels)
 sets_begin h first n levels all = sets_none h (first + n) (drop n levels) (drop_past levels n (past (length levels) n all))
   where
     past : (m n : ℕ) → n ≡ m → m ≤ n
     past m n e = omega (arith, e)
 
-pub sets_end : (old new : Held) (first i : ℕ) (levels : List ℕ) → i ≤ 0 → SetsLevels old new (first + i) (drop i levels) → SetsLevels old new first levels
+pub sets_end : (old new : PhaseLevels) (first i : ℕ) (levels : List ℕ) → i ≤ 0 → SetsLevels old new (first + i) (drop i levels) → SetsLevels old new first levels
 sets_end old new first zero levels none s = subst (λ (n : ℕ). SetsLevels old new n levels) (sym (plus_none first)) s
 sets_end old new first (suc i) levels none s = elim (never i none) [ ]
   where
     never : (i : ℕ) → suc i ≤ 0 → ⊥
     never i e = omega (arith, e)
 
-pub sets_turn : (old mid new : Held) (first i : ℕ) (levels : List ℕ) → 0 < i → i ≤ length levels → SetsLevels old mid (first + i) (drop i levels) → AssignsAt mid new (first + (i - 1)) (get_or levels (i - 1) 0)
+pub sets_turn : (old mid new : PhaseLevels) (first i : ℕ) (levels : List ℕ) → 0 < i → i ≤ length levels → SetsLevels old mid (first + i) (drop i levels) → AssignsAt mid new (first + (i - 1)) (get_or levels (i - 1) 0)
     → SetsLevels old new (first + (i - 1)) (drop (i - 1) levels)
 sets_turn old mid new first i levels some within s a =
     sets_more old mid new (first + (i - 1)) (get_or levels (i - 1) 0) (drop i levels) (drop (i - 1) levels)
@@ -110,7 +110,7 @@ sets_turn old mid new first i levels some within s a =
     before_end : (i n : ℕ) → 0 < i → i ≤ n → i - 1 < n
     before_end i n e f = omega (arith, e, f)
 
-module _ (old mid new : Held) (outer first n : ℕ) (ts : CoreTerms) (levels : List ℕ)
+module _ (old mid new : PhaseLevels) (outer first n : ℕ) (ts : CoreTerms) (levels : List ℕ)
     (g : GivesEach old mid (each_level (told old.shares.now) outer ts (levels_seen old)) (levels_behind (told old.shares.now) outer ts (levels_seen old)) levels n) (s : SetsLevels mid new first levels) where
   same : held_access_count new ≡ held_access_count mid
   same = ap length s.reads
@@ -138,7 +138,7 @@ module _ (old mid new : Held) (outer first n : ℕ) (ts : CoreTerms) (levels : L
   }
 
 -- a view with variables for its offsets
-pub view_kept : (old mid new : Held) (outer first n : ℕ) (hs : List Hidden) (ts : CoreTerms) (levels : List ℕ) → first_hidden_variable hs ≡ Some first
+pub view_kept : (old mid new : PhaseLevels) (outer first n : ℕ) (hs : List Hidden) (ts : CoreTerms) (levels : List ℕ) → first_hidden_variable hs ≡ Some first
     → GivesEach old mid (each_level (told old.shares.now) outer ts (levels_seen old)) (levels_behind (told old.shares.now) outer ts (levels_seen old)) levels n → SetsLevels mid new first levels → GivesCommands old new outer (kept_by hs ts no_commands) n
 view_kept old mid new outer first n [] ts levels is g s = cc
 view_kept old mid new outer first n (h ∷ hs) no_terms levels is g s = gives_set old mid new outer first n no_terms levels g s no_commands refl (λ e. sym (none_between first e))
@@ -150,22 +150,22 @@ view_kept old mid new outer first n (h ∷ hs) (term_and t ts) levels is g s =
     some_same a b e = cc
 
 -- and one without
-pub view_skipped : (old new : Held) (outer n : ℕ) (hs : List Hidden) (ts : CoreTerms) → first_hidden_variable hs ≡ None → GivesLevels old new (levels_seen old) n → GivesCommands old new outer (kept_by hs ts no_commands) n
+pub view_skipped : (old new : PhaseLevels) (outer n : ℕ) (hs : List Hidden) (ts : CoreTerms) → first_hidden_variable hs ≡ None → GivesLevels old new (levels_seen old) n → GivesCommands old new outer (kept_by hs ts no_commands) n
 view_skipped old new outer n [] no_terms none g = gives_skipped old new outer n g
 view_skipped old new outer n [] (term_and t ts) none g = gives_skipped old new outer n g
 view_skipped old new outer n (h ∷ hs) ts none g = cc
 
 -- The offsets, one by one.
 
-pub record EachSo (ways : Leads) (known : Known) (start now : Held) (outer : ℕ) (levels : List ℕ) (rest all : List Term) : Type 0 where
+pub record EachSo (ways : Leads) (known : Known) (start now : PhaseLevels) (outer : ℕ) (levels : List ℕ) (rest all : List Term) : Type 0 where
   pub led : IsLedBy ways known
   pub sound : HasSoundLevels now
   pub within : outer ≤ held_access_count now
-  pub so : (new : Held) (more : List ℕ)
+  pub so : (new : PhaseLevels) (more : List ℕ)
       → GivesEach now new (each_level (told now.shares.now) outer (core_terms known (held_access_count now) (terms rest)) (levels_seen now)) (levels_behind (told now.shares.now) outer (core_terms known (held_access_count now) (terms rest)) (levels_seen now)) more (terms_accesses (terms rest))
       → GivesEach start new (each_level (told start.shares.now) outer (core_terms known (held_access_count start) (terms all)) (levels_seen start)) (levels_behind (told start.shares.now) outer (core_terms known (held_access_count start) (terms all)) (levels_seen start)) (levels ++ more) (terms_accesses (terms all))
 
-pub each_begin : {ways : Leads} (known : Known) (h : Held) (outer : ℕ) (levels : List ℕ) (all : List Term) → levels ≡ [] → IsLedBy ways known → HasSoundLevels h → outer ≤ held_access_count h → EachSo ways known h h outer levels all all
+pub each_begin : {ways : Leads} (known : Known) (h : PhaseLevels) (outer : ℕ) (levels : List ℕ) (all : List Term) → levels ≡ [] → IsLedBy ways known → HasSoundLevels h → outer ≤ held_access_count h → EachSo ways known h h outer levels all all
 each_begin known h outer levels all none u s low = record {
   led = u;
   sound = s;
@@ -174,7 +174,7 @@ each_begin known h outer levels all none u s low = record {
       subst (λ (ls : List ℕ). GivesEach h new (each_level (told h.shares.now) outer (core_terms known (held_access_count h) (terms all)) (levels_seen h)) (levels_behind (told h.shares.now) outer (core_terms known (held_access_count h) (terms all)) (levels_seen h)) (ls ++ more) (terms_accesses (terms all))) (sym none) g;
 }
 
-pub each_turn : {ways : Leads} (known : Known) (start now next : Held) (outer level : ℕ) (levels next_levels : List ℕ) (t : Term) (rest left all : List Term) → left ≡ t ∷ rest → next_levels ≡ levels ++ level ∷ []
+pub each_turn : {ways : Leads} (known : Known) (start now next : PhaseLevels) (outer level : ℕ) (levels next_levels : List ℕ) (t : Term) (rest left all : List Term) → left ≡ t ∷ rest → next_levels ≡ levels ++ level ∷ []
     → (IsLedBy ways known → HasSoundLevels now → outer ≤ held_access_count now → GivesLevel now next (term_leveled (told now.shares.now) outer (core_term known (held_access_count now) t) (levels_seen now)) level (term_accesses t)) → EachSo ways known start now outer levels left all
     → EachSo ways known start next outer next_levels rest all
 each_turn known start now next outer level levels next_levels t rest left all cut longer one h =
@@ -205,7 +205,7 @@ each_turn known start now next outer level levels next_levels t rest left all cu
           })));
     }
 
-pub each_end : {ways : Leads} (known : Known) (start now : Held) (outer : ℕ) (levels : List ℕ) (rest all : List Term) → rest ≡ [] → EachSo ways known start now outer levels rest all
+pub each_end : {ways : Leads} (known : Known) (start now : PhaseLevels) (outer : ℕ) (levels : List ℕ) (rest all : List Term) → rest ≡ [] → EachSo ways known start now outer levels rest all
     → GivesEach start now (each_level (told start.shares.now) outer (core_terms known (held_access_count start) (terms all)) (levels_seen start)) (levels_behind (told start.shares.now) outer (core_terms known (held_access_count start) (terms all)) (levels_seen start)) levels (terms_accesses (terms all))
 each_end known start now outer levels rest all none h =
     subst (λ (ls : List ℕ). GivesEach start now (each_level (told start.shares.now) outer (core_terms known (held_access_count start) (terms all)) (levels_seen start)) (levels_behind (told start.shares.now) outer (core_terms known (held_access_count start) (terms all)) (levels_seen start)) ls (terms_accesses (terms all))) (append-nil levels)

@@ -28,8 +28,8 @@ use Rattle.dh_ports.proofs.PhaseSizes.{full, other_full, stage_size}
 use Rattle.dh_ports.proofs.StagesKnown as stages
 use Rattle.dh_lengths.specs.declared.leads.Leads.{Leads}
 use Rattle.dh_lengths.specs.LedBy.{IsLedBy}
-use Rattle.dh_lengths.specs.declared.held.Held.{Held}
-use Rattle.dh_lengths.specs.declared.lengths.Walk.{Walk}
+use Rattle.dh_lengths.specs.declared.held.PhaseLevels.{PhaseLevels}
+use Rattle.dh_lengths.specs.declared.lengths.PhaseWalk.{PhaseWalk}
 use Rattle.dh_lengths.specs.SharedReads.{told, TellsShares}
 use Rattle.dh_lengths.specs.Undone.{undone_levels}
 use Rattle.dh_lengths.specs.PhaseBlocks.{blocks_in, phase_blocks, lengths_of}
@@ -52,7 +52,7 @@ least_one most n e = grind (arith, e)
 
 -- The phase that is held is over.
 
-ground_seen : (old new : Held) → EndsPhase old new → undone_levels old.log.items (table_at old.variables.items) ≡ (λ e. 0) → levels_seen new ≡ level_ground
+ground_seen : (old new : PhaseLevels) → EndsPhase old new → undone_levels old.log.items (table_at old.variables.items) ≡ (λ e. 0) → levels_seen new ≡ level_ground
 ground_seen old new ends fresh =
     ap (λ l. levels_of l new.first new.most new.variables.items) ends.reads
     ∙ (ap (λ n. levels_of old.reads.items n new.most new.variables.items) ends.first
@@ -60,10 +60,10 @@ ground_seen old new ends fresh =
     ∙ (ap (λ (f : ℕ → ℕ). record { variables = f; reads = read_in old.reads.items (held_access_count old); most = 0 }) (ends.variables ∙ fresh)
     ∙ ap (λ (f : ℕ → ℕ). record { variables = λ e. 0; reads = f; most = 0 }) (read_end old.reads.items))))
 
-ground_fresh : (old new : Held) → EndsPhase old new → undone_levels old.log.items (table_at old.variables.items) ≡ (λ e. 0) → undone_levels new.log.items (table_at new.variables.items) ≡ (λ e. 0)
+ground_fresh : (old new : PhaseLevels) → EndsPhase old new → undone_levels old.log.items (table_at old.variables.items) ≡ (λ e. 0) → undone_levels new.log.items (table_at new.variables.items) ≡ (λ e. 0)
 ground_fresh old new ends fresh = ap (λ l. undone_levels l (table_at new.variables.items)) ends.log ∙ (ends.variables ∙ fresh)
 
-ground_sound : (old new : Held) → EndsPhase old new → undone_levels old.log.items (table_at old.variables.items) ≡ (λ e. 0) → HasSoundLevels new
+ground_sound : (old new : PhaseLevels) → EndsPhase old new → undone_levels old.log.items (table_at old.variables.items) ≡ (λ e. 0) → HasSoundLevels new
 ground_sound old new ends fresh = record {
   first = subst (λ (n : ℕ). n ≤ held_access_count new) (sym ends.first) (subst (λ (n : ℕ). held_access_count old ≤ n) (sym (ap length ends.reads)) (same (held_access_count old)));
   small = subst (λ (l : Levels). LevelsAreSmall (held_access_count new) l) (sym (ground_seen old new ends fresh)) (record { variables = λ e. none_low (held_access_count new); reads = λ k. none_low (held_access_count new); most = none_low (held_access_count new) });
@@ -73,7 +73,7 @@ ground_sound old new ends fresh = record {
     same n = omega arith
 
 -- where nothing is open
-stands_fresh : (known : Known) (base : List ℕ) (w : Walk) → w.lengths.items ≡ base → levels_seen w.held ≡ level_ground → w.pending ≡ false → undone_levels w.held.log.items (table_at w.held.variables.items) ≡ (λ e. 0) → HasSoundLevels w.held → WalkStandsBehind known base w []
+stands_fresh : (known : Known) (base : List ℕ) (w : PhaseWalk) → w.lengths.items ≡ base → levels_seen w.held ≡ level_ground → w.pending ≡ false → undone_levels w.held.log.items (table_at w.held.variables.items) ≡ (λ e. 0) → HasSoundLevels w.held → WalkStandsBehind known base w []
 stands_fresh known base w lengths seen closed fresh sound = record {
   lengths = lengths ∙ sym (append-nil base);
   seen = seen;
@@ -88,7 +88,7 @@ line_lengths : (shared : ℕ → Option ℕ) (known : Known) (line : List Phase)
 line_lengths shared known line cs e is = ap (lengths_in shared known) (e ∙ ap (λ l. front line ++ one_straight l) is) ∙ lengths_both shared known (front line) (one_straight cs)
 
 -- the line is told to its end
-module _ (known : Known) (base : List ℕ) (line : List Phase) (old : Walk) (s : WalkStandsBehind known base old line) where
+module _ (known : Known) (base : List ℕ) (line : List Phase) (old : PhaseWalk) (s : WalkStandsBehind known base old line) where
   told_lengths : (c : Located) (cs : List Located) → last_open line ≡ c ∷ cs → old.lengths.items ++ (min old.held.most (held_access_count old.held) + 1) ∷ [] ≡ base ++ lengths_in (told old.held.shares.now) known line
   told_lengths c cs is =
       let shared = told old.held.shares.now in
@@ -102,7 +102,7 @@ module _ (known : Known) (base : List ℕ) (line : List Phase) (old : Walk) (s :
   still_lengths : last_open line ≡ [] → old.lengths.items ≡ base ++ lengths_in (told old.held.shares.now) known line
   still_lengths is = s.lengths ∙ ap (λ l. base ++ l) (sym (line_lengths (told old.held.shares.now) known line [] s.full is ∙ append-nil (lengths_in (told old.held.shares.now) known (front line))))
 
-pub closes_told : (old mid new : Walk) → old.pending ≡ true → TellsPhaseLength old mid → new.held ≡ mid.held → new.lengths ≡ mid.lengths → new.pending ≡ false → new.going ≡ false → Closes old new
+pub closes_told : (old mid new : PhaseWalk) → old.pending ≡ true → TellsPhaseLength old mid → new.held ≡ mid.held → new.lengths ≡ mid.lengths → new.pending ≡ false → new.going ≡ false → Closes old new
 closes_told old mid new open_is t held lengths closed going known base line s = by (last_open line) refl
   where
     by : (cs : List Located) → last_open line ≡ cs → IsClosed known base line old new
@@ -112,14 +112,14 @@ closes_told old mid new open_is t held lengths closed going known base line s = 
         untrue e = cc
     by (c ∷ cs) is = record {
       stands = stands_fresh known (base ++ lengths_in (told old.held.shares.now) known line) new (ap (λ (v : Vec ℕ Global). v.items) lengths ∙ (t.lengths ∙ told_lengths known base line old s c cs is)) (ap levels_seen held ∙ ground_seen old.held mid.held t.ends s.fresh) closed
-          (ap (λ (h : Held). undone_levels h.log.items (table_at h.variables.items)) held ∙ ground_fresh old.held mid.held t.ends s.fresh)
+          (ap (λ (h : PhaseLevels). undone_levels h.log.items (table_at h.variables.items)) held ∙ ground_fresh old.held mid.held t.ends s.fresh)
           (subst HasSoundLevels (sym held) (ground_sound old.held mid.held t.ends s.fresh));
       going = going;
       counted = ap held_access_count held ∙ ap length t.ends.reads;
-      shares = ap (λ (h : Held). h.shares.now) held ∙ t.ends.shares;
+      shares = ap (λ (h : PhaseLevels). h.shares.now) held ∙ t.ends.shares;
     }
 
-pub closes_still : (old new : Walk) → old.pending ≡ false → new.held ≡ old.held → new.lengths ≡ old.lengths → new.pending ≡ old.pending → new.going ≡ false → Closes old new
+pub closes_still : (old new : PhaseWalk) → old.pending ≡ false → new.held ≡ old.held → new.lengths ≡ old.lengths → new.pending ≡ old.pending → new.going ≡ false → Closes old new
 closes_still old new open_is held lengths still going known base line s = by (last_open line) refl
   where
     by : (cs : List Located) → last_open line ≡ cs → IsClosed known base line old new
@@ -130,18 +130,18 @@ closes_still old new open_is held lengths still going known base line s = by (la
     by [] is = record {
       stands = stands_fresh known (base ++ lengths_in (told old.held.shares.now) known line) new (ap (λ (v : Vec ℕ Global). v.items) lengths ∙ still_lengths known base line old s is)
           (ap levels_seen held ∙ (s.seen ∙ ap (λ x. commands_leveled (told old.held.shares.now) 0 (core_commands known x) level_ground) is)) (still ∙ open_is)
-          (ap (λ (h : Held). undone_levels h.log.items (table_at h.variables.items)) held ∙ s.fresh) (subst HasSoundLevels (sym held) s.sound);
+          (ap (λ (h : PhaseLevels). undone_levels h.log.items (table_at h.variables.items)) held ∙ s.fresh) (subst HasSoundLevels (sym held) s.sound);
       going = going;
       counted = ap held_access_count held;
-      shares = ap (λ (h : Held). h.shares.now) held;
+      shares = ap (λ (h : PhaseLevels). h.shares.now) held;
     }
 
 -- A test.
 
-abbrev pub put_held : Walk → Held → Walk
+abbrev pub put_held : PhaseWalk → PhaseLevels → PhaseWalk
 put_held w h = record { held = h; pending = w.pending; going = w.going; lengths = w.lengths }
 
-pub tested_so : {ways : Leads} (old a new : Walk) (h : Held) (test : Expr) (level : ℕ) → Closes old a → LevelsTerm ways a.held h 0 test level → TellsPhaseLength (put_held a h) new → WalksTest ways old new test
+pub tested_so : {ways : Leads} (old a new : PhaseWalk) (h : PhaseLevels) (test : Expr) (level : ℕ) → Closes old a → LevelsTerm ways a.held h 0 test level → TellsPhaseLength (put_held a h) new → WalksTest ways old new test
 tested_so old a new h test level closes levels t known u base line s =
     let k = closes known base line s in
     let g = levels known u k.stands.sound (none_low (held_access_count a.held)) in
@@ -173,7 +173,7 @@ one_both : (cs ds : List Located) (d : Located) → one_straight (cs ++ d ∷ ds
 one_both [] ds d = refl
 one_both (c ∷ cs) ds d = refl
 
-added : (known : Known) (base : List ℕ) (line : List Phase) (a new : Walk) (cs : CoreCommands) (n : ℕ) (d : Located) (ds : List Located) → WalkStandsBehind known base a line → GivesCommands a.held new.held 0 cs n → core_commands known (d ∷ ds) ≡ cs
+added : (known : Known) (base : List ℕ) (line : List Phase) (a new : PhaseWalk) (cs : CoreCommands) (n : ℕ) (d : Located) (ds : List Located) → WalkStandsBehind known base a line → GivesCommands a.held new.held 0 cs n → core_commands known (d ∷ ds) ≡ cs
     → new.lengths.items ≡ a.lengths.items → new.pending ≡ true → WalkStandsBehind known base new (front line ++ one_straight (last_open line ++ d ∷ ds))
 added known base line a new cs n d ds s g core lengths open_is =
     let all = last_open line ++ d ∷ ds in
@@ -202,7 +202,7 @@ added known base line a new cs n d ds s g core lengths open_is =
     })
 
 -- behind a line whose lengths are told
-behind_line : (known : Known) (base : List ℕ) (line : List Phase) (shares : List (Option ℕ)) (w : Walk) (d : Located) (ds : List Located) → w.held.shares.now ≡ shares → WalkStandsBehind known (base ++ lengths_in (told shares) known line) w (straight (d ∷ ds) ∷ [])
+behind_line : (known : Known) (base : List ℕ) (line : List Phase) (shares : List (Option ℕ)) (w : PhaseWalk) (d : Located) (ds : List Located) → w.held.shares.now ≡ shares → WalkStandsBehind known (base ++ lengths_in (told shares) known line) w (straight (d ∷ ds) ∷ [])
     → WalkStandsBehind known base w (line ++ straight (d ∷ ds) ∷ [])
 behind_line known base line shares w d ds same s = record {
   lengths =
@@ -217,7 +217,7 @@ behind_line known base line shares w d ds same s = record {
 }
 
 -- phases that a line goes on with, but for a straight one
-pub behind_other : (known : Known) (base told_so : List ℕ) (line : List Phase) (w : Walk) (p : Phase) → IsOther p → WalkStandsBehind known told_so w [] → told_so ≡ base ++ lengths_in (told w.held.shares.now) known (line ++ p ∷ []) → WalkStandsBehind known base w (line ++ p ∷ [])
+pub behind_other : (known : Known) (base told_so : List ℕ) (line : List Phase) (w : PhaseWalk) (p : Phase) → IsOther p → WalkStandsBehind known told_so w [] → told_so ≡ base ++ lengths_in (told w.held.shares.now) known (line ++ p ∷ []) → WalkStandsBehind known base w (line ++ p ∷ [])
 behind_other known base told_so line w p other s is = record {
   lengths = s.lengths ∙ (append-nil told_so ∙ (is ∙ ap (λ l. base ++ lengths_in (told w.held.shares.now) known l) (sym (front_other line p other))));
   seen = s.seen ∙ ap (λ l. commands_leveled (told w.held.shares.now) 0 (core_commands known l) level_ground) (sym (last_other line p other));
@@ -271,7 +271,7 @@ few_one : (n : ℕ) → n ≡ 1 → n ≤ 1
 few_one n e = omega (arith, e)
 
 -- a straight command goes on with the open phase, or begins one
-pub walked_straight : {ways : Leads} (old a new : Walk) (c : Command) → OpensBy old.going old a → LevelsCommand ways a.held new.held 0 c → new.lengths.items ≡ a.lengths.items → new.pending ≡ true → new.going ≡ true → WalksStraight ways old new c
+pub walked_straight : {ways : Leads} (old a new : PhaseWalk) (c : Command) → OpensBy old.going old a → LevelsCommand ways a.held new.held 0 c → new.lengths.items ≡ a.lengths.items → new.pending ≡ true → new.going ≡ true → WalksStraight ways old new c
 walked_straight old a new c opens levels lengths open_is going_is known u r base line stage s = by old.going refl
   where
     n : ℕ
@@ -283,7 +283,7 @@ walked_straight old a new c opens levels lengths open_is going_is known u r base
     core : core_commands known (one.first ∷ one.rest) ≡ core_action known (held_access_count old.held) (action_seen c) no_commands
     core = straight_core known r (held_access_count old.held) (action_seen c) (one.first ∷ one.rest) (few_one (phase_kind (action_seen c)) stage) one.is
 
-    walked : (w : Walk) → held_access_count a.held ≡ held_access_count old.held → a.held.shares.now ≡ old.held.shares.now → HasSoundLevels a.held → WalkStandsBehind known base new (put_phases old.going line (straight (one.first ∷ one.rest) ∷ []))
+    walked : (w : PhaseWalk) → held_access_count a.held ≡ held_access_count old.held → a.held.shares.now ≡ old.held.shares.now → HasSoundLevels a.held → WalkStandsBehind known base new (put_phases old.going line (straight (one.first ∷ one.rest) ∷ []))
         → PhasesAreWalked known base line old new (phases r (held_access_count old.held) (action_seen c)) (accesses_of (action_seen c))
     walked w counted shares sound stands =
         let g = levels known u sound (none_low (held_access_count a.held)) in
@@ -300,10 +300,10 @@ walked_straight old a new c opens levels lengths open_is going_is known u r base
     by : (g : Bool) → old.going ≡ g → PhasesAreWalked known base line old new (phases r (held_access_count old.held) (action_seen c)) (accesses_of (action_seen c))
     by true e =
         let same : a ≡ old = subst (λ (b : Bool). OpensBy b old a) e opens in
-        let stands = subst (λ (w : Walk). WalkStandsBehind known base w line) (sym same) s in
-        walked a (ap (λ (w : Walk). held_access_count w.held) same) (ap (λ (w : Walk). w.held.shares.now) same) stands.sound
+        let stands = subst (λ (w : PhaseWalk). WalkStandsBehind known base w line) (sym same) s in
+        walked a (ap (λ (w : PhaseWalk). held_access_count w.held) same) (ap (λ (w : PhaseWalk). w.held.shares.now) same) stands.sound
         (subst (λ (b : Bool). WalkStandsBehind known base new (put_phases b line (straight (one.first ∷ one.rest) ∷ []))) (sym e)
-        (added known base line a new _ _ one.first one.rest stands (levels known u stands.sound (none_low (held_access_count a.held))) (core_at (ap (λ (w : Walk). held_access_count w.held) same)) lengths open_is))
+        (added known base line a new _ _ one.first one.rest stands (levels known u stands.sound (none_low (held_access_count a.held))) (core_at (ap (λ (w : PhaseWalk). held_access_count w.held) same)) lengths open_is))
     by false e =
         let k = subst (λ (b : Bool). OpensBy b old a) e opens known base line s in
         let g = levels known u k.stands.sound (none_low (held_access_count a.held)) in
@@ -314,7 +314,7 @@ walked_straight old a new c opens levels lengths open_is going_is known u r base
 
 -- A command without phases.
 
-pub walked_none : {ways : Leads} (stages : List ℕ) (old new : Walk) (c : Command) → phase_kind (action_seen c) ≡ 0 → Skips old.held new.held (accesses_of (action_seen c)) → new.lengths.items ≡ old.lengths.items → new.pending ≡ old.pending → new.going ≡ old.going → WalksCommand ways stages old new c
+pub walked_none : {ways : Leads} (stages : List ℕ) (old new : PhaseWalk) (c : Command) → phase_kind (action_seen c) ≡ 0 → Skips old.held new.held (accesses_of (action_seen c)) → new.lengths.items ≡ old.lengths.items → new.pending ≡ old.pending → new.going ≡ old.going → WalksCommand ways stages old new c
 walked_none stages old new c stage skips lengths open_is going_is known u r base line tells s =
     let g = skips_gives old.held new.held (accesses_of (action_seen c)) s.sound skips in
     let none = none_phases r (held_access_count old.held) (action_seen c) stage in
@@ -333,7 +333,7 @@ walked_none stages old new c stage skips lengths open_is going_is known u r base
       shares = g.keeps.shares;
     }
 
-pub nothing_skipped : (h : Held) → Skips h h 0
+pub nothing_skipped : (h : PhaseLevels) → Skips h h 0
 nothing_skipped h = record { reads = sym (append-nil h.reads.items); most = refl; keeps = record { shares = refl; first = refl; variables = refl; log = refl } }
 
 -- Commands of more phases.
@@ -343,7 +343,7 @@ more_lengths shared known base line p ls is =
     append_assoc base (lengths_in shared known line) ls ∙ ap (λ l. base ++ l) (ap (λ l. lengths_in shared known line ++ l) is ∙ sym (lengths_both shared known line (p ∷ [])))
 
 -- one phase more, that is not straight
-walked_other : (known : Known) (base told_so : List ℕ) (line : List Phase) (old new : Walk) (p : Phase) (ps : List Phase) (n : ℕ) → IsOther p → ps ≡ p ∷ [] → WalkStandsBehind known told_so new [] → told_so ≡ base ++ lengths_in (told old.held.shares.now) known (line ++ p ∷ [])
+walked_other : (known : Known) (base told_so : List ℕ) (line : List Phase) (old new : PhaseWalk) (p : Phase) (ps : List Phase) (n : ℕ) → IsOther p → ps ≡ p ∷ [] → WalkStandsBehind known told_so new [] → told_so ≡ base ++ lengths_in (told old.held.shares.now) known (line ++ p ∷ [])
     → new.going ≡ false → held_access_count new.held ≡ held_access_count old.held + n → new.held.shares.now ≡ old.held.shares.now → PhasesAreWalked known base line old new ps n
 walked_other known base told_so line old new p ps n other is s all going counted shares = record {
   stands = subst (λ (qs : List Phase). WalkStandsBehind known base new (put_phases old.going line qs)) (sym is)
@@ -385,7 +385,7 @@ sum_later : (o a b m n : ℕ) → a ≡ o + m → b ≡ a + n → b ≡ o + (0 +
 sum_later o a b m n e f = omega (arith, e, f)
 
 -- a command by what is seen of its form, where it has more phases than one straight one
-module _ (ways : Leads) (stages : List ℕ) (old new : Walk) (c : Command) where
+module _ (ways : Leads) (stages : List ℕ) (old new : PhaseWalk) (c : Command) where
   abbrev FormWalked : ActionForm → Type 0
   FormWalked f =
       (known : Known) → IsLedBy ways known → (r : Around) (base : List ℕ) (line : List Phase) → TellInside (table_at stages) f → are_straight (form_phases r (held_access_count old.held) c.id c.place f) ≡ false → WalkStandsBehind known base old line
@@ -398,7 +398,7 @@ module _ (ways : Leads) (stages : List ℕ) (old new : Walk) (c : Command) where
       (walked known u r base line (subst (λ (x : ActionForm). TellInside (table_at stages) x) is tells.1) (subst (λ (x : ActionForm). are_straight (form_phases r (held_access_count old.held) c.id c.place x) ≡ false) is more) s)
 
 -- an `if`
-pub walked_choice : {ways : Leads} (stages : List ℕ) (old w1 w2 w3 w4 new : Walk) (c x : Command) (test : Expr) (other : MaybeAction) → WalksTest ways old w1 test → WalksCommand ways stages w1 w2 x → Closes w2 w3
+pub walked_choice : {ways : Leads} (stages : List ℕ) (old w1 w2 w3 w4 new : PhaseWalk) (c x : Command) (test : Expr) (other : MaybeAction) → WalksTest ways old w1 test → WalksCommand ways stages w1 w2 x → Closes w2 w3
     → ((known : Known) → IsLedBy ways known → (r : Around) (base : List ℕ) (line : List Phase) → TellOther (table_at stages) other → WalkStandsBehind known base w3 line → PhasesAreWalked known base line w3 w4 (other_phases r (held_access_count w3.held) other) (other_accesses other)) → Closes w4 new
     → FormWalked ways stages old new c (plain.decides (term_seen test) (action_seen x) other)
 walked_choice stages old w1 w2 w3 w4 new c x test other one two three four five known u r base line tells more s =
@@ -436,7 +436,7 @@ walked_choice stages old w1 w2 w3 w4 new c x test other one two three four five 
     (p5.shares ∙ same4)
 
 -- a `while`
-pub walked_repeat : {ways : Leads} (stages : List ℕ) (old w1 w2 new : Walk) (c x : Command) (test : Expr) → WalksTest ways old w1 test → WalksCommand ways stages w1 w2 x → Closes w2 new → FormWalked ways stages old new c (plain.repeats (term_seen test) (action_seen x))
+pub walked_repeat : {ways : Leads} (stages : List ℕ) (old w1 w2 new : PhaseWalk) (c x : Command) (test : Expr) → WalksTest ways old w1 test → WalksCommand ways stages w1 w2 x → Closes w2 new → FormWalked ways stages old new c (plain.repeats (term_seen test) (action_seen x))
 walked_repeat stages old w1 w2 new c x test one two three known u r base line tells more s =
     let k = term_accesses (term_seen test) in
     let p1 = one known u base line s in
@@ -455,11 +455,11 @@ walked_repeat stages old w1 w2 new c x test one two three known u r base line te
     p3.going (sum_two (held_access_count old.held) (held_access_count w1.held) (held_access_count new.held) k (accesses_of (action_seen x)) p1.counted (p3.counted ∙ p2.counted)) (p3.shares ∙ same2)
 
 -- the next straight command joins
-abbrev pub put_going : Walk → Walk
+abbrev pub put_going : PhaseWalk → PhaseWalk
 put_going w = record { held = w.held; pending = w.pending; going = true; lengths = w.lengths }
 
 -- a `for`
-pub walked_turns : {ways : Leads} (stages : List ℕ) (old w1 w2 w3 new : Walk) (c x : Command) (iterator : _) (declared : _) (low high : _) (factor : _) (combine : MaybeAction) (combine_place : Place) → Closes old w1 → WalksCommand ways stages w1 w2 x
+pub walked_turns : {ways : Leads} (stages : List ℕ) (old w1 w2 w3 new : PhaseWalk) (c x : Command) (iterator : _) (declared : _) (low high : _) (factor : _) (combine : MaybeAction) (combine_place : Place) → Closes old w1 → WalksCommand ways stages w1 w2 x
     → ((known : Known) → IsLedBy ways known → (r : Around) (base : List ℕ) (line : List Phase) → TellOther (table_at stages) combine → WalkStandsBehind known base (put_going w2) line → PhasesAreWalked known base line (put_going w2) w3 (other_phases r (held_access_count w2.held) combine) (other_accesses combine)) → Closes w3 new
     → FormWalked ways stages old new c (plain.counts iterator declared low high factor (action_seen x) combine combine_place)
 walked_turns stages old w1 w2 w3 new c x iterator declared low high factor combine combine_place one two three four known u r base line tells more s =
@@ -491,7 +491,7 @@ parts_full : (r : Around) (n : ℕ) (part : Actions) → AllFull (parts_phases r
 parts_full r n plain.no_actions = tt
 parts_full r n (plain.action_then a rest) = (full r n a, parts_full r (n + accesses_of a) rest)
 
-pub record PartWalked (stages : List ℕ) (known : Known) (r : Around) (base : List ℕ) (line : List Phase) (start now : Walk) (rest all : List Command) : Type 0 where
+pub record PartWalked (stages : List ℕ) (known : Known) (r : Around) (base : List ℕ) (line : List Phase) (start now : PhaseWalk) (rest all : List Command) : Type 0 where
   pub standing : List Phase
   pub stands : WalkStandsBehind known base now standing
   pub so : puts now.going standing (parts_phases r (held_access_count now.held) (actions (map action_seen rest))) ≡ puts start.going line (parts_phases r (held_access_count start.held) (actions (map action_seen all)))
@@ -499,13 +499,13 @@ pub record PartWalked (stages : List ℕ) (known : Known) (r : Around) (base : L
   pub shares : now.held.shares.now ≡ start.held.shares.now
   pub tells : TellPart (table_at stages) (actions (map action_seen rest))
 
-pub part_begin : (stages : List ℕ) (known : Known) (r : Around) (base : List ℕ) (line : List Phase) (w : Walk) (all : List Command) → TellPart (table_at stages) (actions (map action_seen all)) → WalkStandsBehind known base w line → PartWalked stages known r base line w w all all
+pub part_begin : (stages : List ℕ) (known : Known) (r : Around) (base : List ℕ) (line : List Phase) (w : PhaseWalk) (all : List Command) → TellPart (table_at stages) (actions (map action_seen all)) → WalkStandsBehind known base w line → PartWalked stages known r base line w w all all
 part_begin stages known r base line w all tells s = record { standing = line; stands = s; so = refl; counted = refl; shares = refl; tells = tells }
 
 sum_next : (a b m n all : ℕ) → b ≡ a + m → a + (m + n) ≡ all → b + n ≡ all
 sum_next a b m n all e f = omega (arith, e, f)
 
-pub part_turn : {ways : Leads} (stages : List ℕ) (known : Known) → IsLedBy ways known → (r : Around) (base : List ℕ) (line : List Phase) (start now next : Walk) (all : List Command) (i : ℕ) (c : Command) → i < length all → c ≡ get_or all i c → WalksCommand ways stages now next c
+pub part_turn : {ways : Leads} (stages : List ℕ) (known : Known) → IsLedBy ways known → (r : Around) (base : List ℕ) (line : List Phase) (start now next : PhaseWalk) (all : List Command) (i : ℕ) (c : Command) → i < length all → c ≡ get_or all i c → WalksCommand ways stages now next c
     → PartWalked stages known r base line start now (drop i all) all → PartWalked stages known r base line start next (drop (i + 1) all) all
 part_turn stages known u r base line start now next all i c within is walks h =
     let cut = at_item all i c within is in
@@ -524,7 +524,7 @@ part_turn stages known u r base line start now next all i c within is walks h =
       tells = tells.1;
     }
 
-pub record GroupsWalked (stages : List ℕ) (known : Known) (r : Around) (base : List ℕ) (line : List Phase) (start now : Walk) (rest all : List (Vec Command Global)) : Type 0 where
+pub record GroupsWalked (stages : List ℕ) (known : Known) (r : Around) (base : List ℕ) (line : List Phase) (start now : PhaseWalk) (rest all : List (Vec Command Global)) : Type 0 where
   pub standing : List Phase
   pub stands : WalkStandsBehind known base now standing
   pub so : standing ++ groups_phases r (held_access_count now.held) (groups (map part_seen rest)) ≡ line ++ groups_phases r (held_access_count start.held) (groups (map part_seen all))
@@ -532,14 +532,14 @@ pub record GroupsWalked (stages : List ℕ) (known : Known) (r : Around) (base :
   pub shares : now.held.shares.now ≡ start.held.shares.now
   pub tells : TellGroups (table_at stages) (groups (map part_seen rest))
 
-pub groups_begin : (stages : List ℕ) (known : Known) (r : Around) (base : List ℕ) (line : List Phase) (w : Walk) (all : List (Vec Command Global)) → TellGroups (table_at stages) (groups (map part_seen all)) → WalkStandsBehind known base w line → GroupsWalked stages known r base line w w all all
+pub groups_begin : (stages : List ℕ) (known : Known) (r : Around) (base : List ℕ) (line : List Phase) (w : PhaseWalk) (all : List (Vec Command Global)) → TellGroups (table_at stages) (groups (map part_seen all)) → WalkStandsBehind known base w line → GroupsWalked stages known r base line w w all all
 groups_begin stages known r base line w all tells s = record { standing = line; stands = s; so = refl; counted = refl; shares = refl; tells = tells }
 
 -- no phase goes on
-abbrev pub put_released : Walk → Walk
+abbrev pub put_released : PhaseWalk → PhaseWalk
 put_released w = record { held = w.held; pending = w.pending; going = false; lengths = w.lengths }
 
-pub released : (known : Known) (base : List ℕ) (line : List Phase) (w : Walk) → WalkStandsBehind known base w line → WalkStandsBehind known base (put_released w) line
+pub released : (known : Known) (base : List ℕ) (line : List Phase) (w : PhaseWalk) → WalkStandsBehind known base w line → WalkStandsBehind known base (put_released w) line
 released known base line w s = record { lengths = s.lengths; seen = s.seen; open_so = s.open_so; fresh = s.fresh; sound = s.sound; full = s.full }
 
 sum_part : (a b n m p all : ℕ) → b + 0 ≡ a + p → a + (p + n) ≡ all → b + n ≡ all
@@ -548,7 +548,7 @@ sum_part a b n m p all e f = omega (arith, e, f)
 plus_none : (n : ℕ) → n + 0 ≡ n
 plus_none n = omega arith
 
-pub groups_turn : (stages : List ℕ) (known : Known) (r : Around) (base : List ℕ) (line : List Phase) (start now next : Walk) (all : List (Vec Command Global)) (i : ℕ) (part : Vec Command Global) (cs rest : List Command) → i < length all → part ≡ get_or all i part → cs ≡ part.items → rest ≡ []
+pub groups_turn : (stages : List ℕ) (known : Known) (r : Around) (base : List ℕ) (line : List Phase) (start now next : PhaseWalk) (all : List (Vec Command Global)) (i : ℕ) (part : Vec Command Global) (cs rest : List Command) → i < length all → part ≡ get_or all i part → cs ≡ part.items → rest ≡ []
     → (TellPart (table_at stages) (actions (map action_seen cs)) → (l : List Phase) → WalkStandsBehind known base (put_released now) l → PartWalked stages known r base l (put_released now) next rest cs)
     → GroupsWalked stages known r base line start now (drop i all) all → GroupsWalked stages known r base line start next (drop (i + 1) all) all
 groups_turn stages known r base line start now next all i part cs rest within is items none walks h =
@@ -576,7 +576,7 @@ groups_turn stages known r base line start now next all i part cs rest within is
       tells = tells.1;
     }
 
-pub walked_block : {ways : Leads} (stages : List ℕ) (old now : Walk) (c : Command) (rest all : List (Vec Command Global)) → rest ≡ []
+pub walked_block : {ways : Leads} (stages : List ℕ) (old now : PhaseWalk) (c : Command) (rest all : List (Vec Command Global)) → rest ≡ []
     → ((known : Known) → IsLedBy ways known → (r : Around) (base : List ℕ) (line : List Phase) → TellGroups (table_at stages) (groups (map part_seen all)) → WalkStandsBehind known base old line → GroupsWalked stages known r base line old now rest all)
     → FormWalked ways stages old (put_released now) c (plain.blocks (groups (map part_seen all)))
 walked_block stages old now c rest all none walks known u r base line tells more s =
@@ -633,7 +633,7 @@ numbered_none = fun_ext none
     none zero = refl
     none (suc e) = refl
 
-pub record IsBegun (w : Walk) (shares : List (Option ℕ)) : Type 0 where
+pub record IsBegun (w : PhaseWalk) (shares : List (Option ℕ)) : Type 0 where
   pub shares_are : w.held.shares.now ≡ shares
   pub reads : w.held.reads.items ≡ []
   pub first : w.held.first ≡ 0
@@ -644,7 +644,7 @@ pub record IsBegun (w : Walk) (shares : List (Option ℕ)) : Type 0 where
   pub going : w.going ≡ false
   pub lengths : w.lengths.items ≡ []
 
-begun_stands : (known : Known) (w : Walk) (shares : List (Option ℕ)) → IsBegun w shares → WalkStandsBehind known [] w []
+begun_stands : (known : Known) (w : PhaseWalk) (shares : List (Option ℕ)) → IsBegun w shares → WalkStandsBehind known [] w []
 begun_stands known w shares b =
     let seen : levels_seen w.held ≡ level_ground =
     ap (λ l. levels_of l w.held.first w.held.most w.held.variables.items) b.reads
@@ -659,7 +659,7 @@ begun_stands known w shares b =
       small = subst (λ (l : Levels). LevelsAreSmall (held_access_count w.held) l) (sym seen) (record { variables = λ e. none_low (held_access_count w.held); reads = λ k. none_low (held_access_count w.held); most = none_low (held_access_count w.held) });
     })
 
-pub all_told : {ways : Leads} (p : Program) (first : ℕ) (before stages_are : List ℕ) (shares : List (Option ℕ)) (w0 w1 w2 : Walk) (body : Command) → p.body ≡ action_seen body → IsNumbered first p.body → before ≡ [] → table_at stages_are ≡ stages_in (action_seen body) (table_at before)
+pub all_told : {ways : Leads} (p : Program) (first : ℕ) (before stages_are : List ℕ) (shares : List (Option ℕ)) (w0 w1 w2 : PhaseWalk) (body : Command) → p.body ≡ action_seen body → IsNumbered first p.body → before ≡ [] → table_at stages_are ≡ stages_in (action_seen body) (table_at before)
     → IsLedBy ways (known_of p) → TellsShares p shares → IsBegun w0 shares → WalksCommand ways stages_are w0 w1 body → Closes w1 w2 → w2.lengths.items ≡ lengths_of p
 all_told p first before stages_are shares w0 w1 w2 body same numbered_from none counted led tells b walks closes =
     let tells_all = stages_tell (table_at stages_are) (action_seen body) (stages.known first (action_seen body) (table_at before) (table_at stages_are) (subst (IsNumbered first) same numbered_from) (λ i w. ap (λ f. f i) counted)) in
@@ -675,10 +675,10 @@ all_told p first before stages_are shares w0 w1 w2 body same numbered_from none 
 
 -- Cases on how many phases a command has.
 
-pub where_none : {ways : Leads} (stages_are : List ℕ) (old new : Walk) (c : Command) (stage : ℕ) → stage ≡ table_at stages_are c.id → stage ≡ 0 → (phase_kind (action_seen c) ≡ 0 → WalksCommand ways stages_are old new c) → WalksCommand ways stages_are old new c
+pub where_none : {ways : Leads} (stages_are : List ℕ) (old new : PhaseWalk) (c : Command) (stage : ℕ) → stage ≡ table_at stages_are c.id → stage ≡ 0 → (phase_kind (action_seen c) ≡ 0 → WalksCommand ways stages_are old new c) → WalksCommand ways stages_are old new c
 where_none stages_are old new c stage is none f known u r base line tells s = f (sym tells.0 ∙ (sym is ∙ none)) known u r base line tells s
 
-pub where_one : {ways : Leads} (stages_are : List ℕ) (old new : Walk) (c : Command) (stage : ℕ) → stage ≡ table_at stages_are c.id → stage ≡ 1 → WalksStraight ways old new c → WalksCommand ways stages_are old new c
+pub where_one : {ways : Leads} (stages_are : List ℕ) (old new : PhaseWalk) (c : Command) (stage : ℕ) → stage ≡ table_at stages_are c.id → stage ≡ 1 → WalksStraight ways old new c → WalksCommand ways stages_are old new c
 where_one stages_are old new c stage is one f known u r base line tells s = f known u r base line (sym tells.0 ∙ (sym is ∙ one)) s
 
 -- a view has one at most
@@ -687,11 +687,11 @@ view_few true c = refl
 view_few false c = refl
 
 -- a form that never has more
-pub never_more : {ways : Leads} (stages_are : List ℕ) (w : Walk) (c : Command) (f : ActionForm) → ((r : Around) → are_straight (form_phases r (held_access_count w.held) c.id c.place f) ≡ true) → FormWalked ways stages_are w w c f
+pub never_more : {ways : Leads} (stages_are : List ℕ) (w : PhaseWalk) (c : Command) (f : ActionForm) → ((r : Around) → are_straight (form_phases r (held_access_count w.held) c.id c.place f) ≡ true) → FormWalked ways stages_are w w c f
 never_more stages_are w c f few known u r base line tells more s = absurd (untrue (sym (few r) ∙ more))
   where
     untrue : true ≡ false → ⊥
     untrue e = cc
 
-pub walked_nothing : (known : Known) (base : List ℕ) (line : List Phase) (w : Walk) → WalkStandsBehind known base w line → PhasesAreWalked known base line w w [] 0
+pub walked_nothing : (known : Known) (base : List ℕ) (line : List Phase) (w : PhaseWalk) → WalkStandsBehind known base w line → PhasesAreWalked known base line w w [] 0
 walked_nothing known base line w s = record { stands = s; going = refl; counted = sym (plus_none (held_access_count w.held)); shares = refl }

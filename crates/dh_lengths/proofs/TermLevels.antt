@@ -22,7 +22,7 @@ use Rattle.dh_meaning.specs.Ways.{Hidden, Way, hidden_in}
 use Rattle.dh_lengths.specs.declared.leads.Leads.{Leads}
 use Rattle.dh_events.specs.Tables.{table_at}
 use Rattle.dh_events.proofs.Turns.{at_item}
-use Rattle.dh_lengths.specs.declared.held.Held.{Held}
+use Rattle.dh_lengths.specs.declared.held.PhaseLevels.{PhaseLevels}
 use Rattle.dh_lengths.specs.SharedReads.{told}
 use Rattle.dh_lengths.specs.HeldLevels.{hidden_level, level_through, zero_levels, levels_seen, variable_in, held_access_count, leveled_with, AddsZeros, HasSoundLevels, KeepsVariableLevels, GivesLevel, GivesLevels, LevelsStore, LevelsTerm, LevelsTerms, ReadsNext, Skips, SkipsStore}
 use Rattle.dh_lengths.proofs.HeldFacts.{skips_gives}
@@ -64,10 +64,10 @@ operation_leveled shared outer op.Ne j k a b l = both_extended shared outer (wid
 
 -- Steps one after the other.
 
-pub keeps_none : (h : Held) → KeepsVariableLevels h h
+pub keeps_none : (h : PhaseLevels) → KeepsVariableLevels h h
 keeps_none h = record { shares = refl; first = refl; variables = refl; log = refl }
 
-pub keeps_both : (a b c : Held) → KeepsVariableLevels a b → KeepsVariableLevels b c → KeepsVariableLevels a c
+pub keeps_both : (a b c : PhaseLevels) → KeepsVariableLevels a b → KeepsVariableLevels b c → KeepsVariableLevels a c
 keeps_both a b c j k = record { shares = k.shares ∙ j.shares; first = k.first ∙ j.first; variables = k.variables ∙ j.variables; log = k.log ∙ j.log }
 
 plus_none : (n : ℕ) → n ≡ n + 0
@@ -92,11 +92,11 @@ both_low : (a b n : ℕ) → a ≤ n → b ≤ n → max a b ≤ n
 both_low a b n e f = grind (arith, e, f)
 
 -- a value without reads
-pub gives_still : (h : Held) (level : ℕ) → HasSoundLevels h → level ≤ held_access_count h → GivesLevel h h (leveled_with level (levels_seen h)) level 0
+pub gives_still : (h : PhaseLevels) (level : ℕ) → HasSoundLevels h → level ≤ held_access_count h → GivesLevel h h (leveled_with level (levels_seen h)) level 0
 gives_still h level s low = record { is = refl; seen = refl; sound = s; low = low; counted = plus_none (held_access_count h); keeps = keeps_none h }
 
 -- behind another, whatever the level of the first
-pub gives_then : (a b c : Held) (i j : Leveled) (first level m n : ℕ) → GivesLevel a b i first m → GivesLevel b c j level n → GivesLevel a c j level (m + n)
+pub gives_then : (a b c : PhaseLevels) (i j : Leveled) (first level m n : ℕ) → GivesLevel a b i first m → GivesLevel b c j level n → GivesLevel a c j level (m + n)
 gives_then a b c i j first level m n g h = record {
   is = h.is;
   seen = h.seen;
@@ -107,7 +107,7 @@ gives_then a b c i j first level m n g h = record {
 }
 
 -- the greater of both
-pub gives_greatest : (a b c : Held) (i j : Leveled) (first level m n : ℕ) → GivesLevel a b i first m → GivesLevel b c j level n → GivesLevel a c (greatest i.level j) (max first level) (m + n)
+pub gives_greatest : (a b c : PhaseLevels) (i j : Leveled) (first level m n : ℕ) → GivesLevel a b i first m → GivesLevel b c j level n → GivesLevel a c (greatest i.level j) (max first level) (m + n)
 gives_greatest a b c i j first level m n g h = record {
   is = ap (λ x. max x level) g.is ∙ ap (λ x. max i.level x) h.is;
   seen = h.seen;
@@ -118,7 +118,7 @@ gives_greatest a b c i j first level m n g h = record {
 }
 
 -- what comes behind a value that was given
-pub then_leveled : (a b c : Held) (i : Leveled) (first level m n : ℕ) (outer : ℕ) (t : ℕ → CoreTerm) → GivesLevel a b i first m → GivesLevel b c (term_leveled (told b.shares.now) outer (t (held_access_count b)) (levels_seen b)) level n
+pub then_leveled : (a b c : PhaseLevels) (i : Leveled) (first level m n : ℕ) (outer : ℕ) (t : ℕ → CoreTerm) → GivesLevel a b i first m → GivesLevel b c (term_leveled (told b.shares.now) outer (t (held_access_count b)) (levels_seen b)) level n
     → GivesLevel b c (term_leveled (told a.shares.now) outer (t (held_access_count a + m)) i.levels) level n
 then_leveled a b c i first level m n outer t g h =
     subst (λ (x : Leveled). GivesLevel b c x level n)
@@ -160,7 +160,7 @@ hidden_low : (f : ℕ → ℕ) (hs : List Hidden) (n : ℕ) → ((e : ℕ) → f
 hidden_low f [] n h = none_low n
 hidden_low f (x ∷ hs) n h = both_low (f x.entity) (hidden_level f hs) n (h x.entity) (hidden_low f hs n h)
 
-gives_through : (a b : Held) (i : Leveled) (first through m : ℕ) (hs : List Hidden) → GivesLevel a b i first m → through ≡ max first (hidden_level (table_at b.variables.items) hs)
+gives_through : (a b : PhaseLevels) (i : Leveled) (first through m : ℕ) (hs : List Hidden) → GivesLevel a b i first m → through ≡ max first (hidden_level (table_at b.variables.items) hs)
     → GivesLevel a b (leveled_with (max i.level (hidden_level i.levels.variables hs)) i.levels) through m
 gives_through a b i first through m hs g e = record {
   is = e ∙ (ap (λ n. max n (hidden_level (table_at b.variables.items) hs)) g.is ∙ ap (λ (l : Levels). max i.level (hidden_level l.variables hs)) g.seen);
@@ -173,29 +173,29 @@ gives_through a b i first through m hs g e = record {
 
 -- Forms.
 
-module _ (old new : Held) (outer : ℕ) (e : Expr) (level : ℕ) where
+module _ (old new : PhaseLevels) (outer : ℕ) (e : Expr) (level : ℕ) where
   abbrev FormGives : Known → TermForm → Type 0
   FormGives known f = GivesLevel old new (term_leveled (told old.shares.now) outer (core_form known (held_access_count old) e.place (kind_or_first e.kind) f) (levels_seen old)) level (form_accesses f)
 
   pub by_form : {ways : Leads} (f : TermForm) → form_seen e.form ≡ f → ((known : Known) → IsLedBy ways known → HasSoundLevels old → outer ≤ held_access_count old → FormGives known f) → LevelsTerm ways old new outer e level
   by_form f is h known u s low = subst (λ (x : TermForm). FormGives known x) (sym is) (h known u s low)
 
-pub number_level : {ways : Leads} (h : Held) (outer : ℕ) (e : Expr) (level : ℕ) (negative : Bool) (value : ℕ) → level ≡ 0 → form_seen e.form ≡ plain.number negative value → LevelsTerm ways h h outer e level
+pub number_level : {ways : Leads} (h : PhaseLevels) (outer : ℕ) (e : Expr) (level : ℕ) (negative : Bool) (value : ℕ) → level ≡ 0 → form_seen e.form ≡ plain.number negative value → LevelsTerm ways h h outer e level
 number_level h outer e level negative value none is =
     by_form h h outer e level (plain.number negative value) is (λ known u s low. subst (λ (n : ℕ). GivesLevel h h (leveled_with 0 (levels_seen h)) n 0) (sym none) (gives_still h 0 s (none_low (held_access_count h))))
 
-pub truth_level : {ways : Leads} (h : Held) (outer : ℕ) (e : Expr) (level : ℕ) (value : Bool) → level ≡ 0 → form_seen e.form ≡ plain.truth_value value → LevelsTerm ways h h outer e level
+pub truth_level : {ways : Leads} (h : PhaseLevels) (outer : ℕ) (e : Expr) (level : ℕ) (value : Bool) → level ≡ 0 → form_seen e.form ≡ plain.truth_value value → LevelsTerm ways h h outer e level
 truth_level h outer e level value none is =
     by_form h h outer e level (plain.truth_value value) is (λ known u s low. subst (λ (n : ℕ). GivesLevel h h (leveled_with 0 (levels_seen h)) n 0) (sym none) (gives_still h 0 s (none_low (held_access_count h))))
 
-pub variable_level : {ways : Leads} (h : Held) (outer : ℕ) (e : Expr) (level : ℕ) (r : Ref) → level ≡ variable_in h.variables.items r.entity → form_seen e.form ≡ plain.named r → LevelsTerm ways h h outer e level
+pub variable_level : {ways : Leads} (h : PhaseLevels) (outer : ℕ) (e : Expr) (level : ℕ) (r : Ref) → level ≡ variable_in h.variables.items r.entity → form_seen e.form ≡ plain.named r → LevelsTerm ways h h outer e level
 variable_level h outer e level r held is =
     by_form h h outer e level (plain.named r) is (λ known u s low.
     subst (λ (n : ℕ). GivesLevel h h (leveled_with (variable_in h.variables.items r.entity) (levels_seen h)) n 0) (sym held)
     (gives_still h (variable_in h.variables.items r.entity) s (s.small.variables (entity_number r.entity))))
 
 -- a read behind its indices
-reads_then : (a b c : Held) (outer level first m : ℕ) (i : Leveled) (r : ℕ → Reach) → ((n : ℕ) → (r n).number ≡ n) → outer ≤ held_access_count a → GivesLevel a b i first m → ReadsNext b c outer first level
+reads_then : (a b c : PhaseLevels) (outer level first m : ℕ) (i : Leveled) (r : ℕ → Reach) → ((n : ℕ) → (r n).number ≡ n) → outer ≤ held_access_count a → GivesLevel a b i first m → ReadsNext b c outer first level
     → GivesLevel a c (read_leveled (told a.shares.now) outer (r (held_access_count a + m)) i) level (m + 1)
 reads_then a b c outer level first m i r numbers low g reads =
     gives_then a b c i _ first level m 1 g
@@ -209,7 +209,7 @@ reads_then a b c outer level first m i r numbers low g reads =
 one_next : (n : ℕ) → n + 1 ≡ suc n
 one_next n = omega arith
 
-pub access_level : {ways : Leads} (old mid new : Held) (outer first through level : ℕ) (e : Expr) (r : Ref) (es : List Expr) → form_seen e.form ≡ plain.accessed r (terms (map term_seen es)) → LevelsTerms ways old mid outer es first
+pub access_level : {ways : Leads} (old mid new : PhaseLevels) (outer first through level : ℕ) (e : Expr) (r : Ref) (es : List Expr) → form_seen e.form ≡ plain.accessed r (terms (map term_seen es)) → LevelsTerms ways old mid outer es first
     → through ≡ level_through ways (levels_seen mid).variables r.entity first → ReadsNext mid new outer through level → LevelsTerm ways old new outer e level
 access_level {ways} old mid new outer first through level e r es is indices through_is reads =
     by_form old new outer e level (plain.accessed r (terms (map term_seen es))) is (λ known u s low.
@@ -220,14 +220,14 @@ access_level {ways} old mid new outer first through level e r es is indices thro
     (sym (target_through (told old.shares.now) outer (way_of known r) (core_terms known (held_access_count old) (terms (map term_seen es))) (levels_seen old)))
     (reads_then old mid new outer level through (terms_accesses (terms (map term_seen es))) _ (λ n. reach_of known n e.place r) (λ n. refl) low (gives_through old mid _ first through (terms_accesses (terms (map term_seen es))) (hidden_in (way_of known r)) (indices known u s low) same) reads)))
 
-pub bank_level : {ways : Leads} (old mid new : Held) (outer first level : ℕ) (e : Expr) (r : Ref) (bank : ℕ) (bank_place : Place) (row : Expr) → form_seen e.form ≡ plain.in_bank r bank bank_place (term_seen row) → LevelsTerm ways old mid outer row first → ReadsNext mid new outer first level → LevelsTerm ways old new outer e level
+pub bank_level : {ways : Leads} (old mid new : PhaseLevels) (outer first level : ℕ) (e : Expr) (r : Ref) (bank : ℕ) (bank_place : Place) (row : Expr) → form_seen e.form ≡ plain.in_bank r bank bank_place (term_seen row) → LevelsTerm ways old mid outer row first → ReadsNext mid new outer first level → LevelsTerm ways old new outer e level
 bank_level old mid new outer first level e r bank bank_place row is indices reads =
     by_form old new outer e level (plain.in_bank r bank bank_place (term_seen row)) is (λ known u s low.
     subst (λ (n : ℕ). GivesLevel old new (term_leveled (told old.shares.now) outer (core_form known (held_access_count old) e.place (kind_or_first e.kind) (plain.in_bank r bank bank_place (term_seen row))) (levels_seen old)) level n)
     (one_next (term_accesses (term_seen row)))
     (reads_then old mid new outer level first (term_accesses (term_seen row)) _ (λ n. reach_of known n e.place r) (λ n. refl) low (indices known u s low) reads))
 
-pub binary_level : {ways : Leads} (old mid new : Held) (outer first second level : ℕ) (e : Expr) (o : Op) (left right : Expr) → form_seen e.form ≡ plain.applied o (term_seen left) (term_seen right) → level ≡ max first second → LevelsTerm ways old mid outer left first → LevelsTerm ways mid new outer right second
+pub binary_level : {ways : Leads} (old mid new : PhaseLevels) (outer first second level : ℕ) (e : Expr) (o : Op) (left right : Expr) → form_seen e.form ≡ plain.applied o (term_seen left) (term_seen right) → level ≡ max first second → LevelsTerm ways old mid outer left first → LevelsTerm ways mid new outer right second
     → LevelsTerm ways old new outer e level
 binary_level old mid new outer first second level e o left right is most one two =
     by_form old new outer e level (plain.applied o (term_seen left) (term_seen right)) is (λ known u s low.
@@ -239,23 +239,23 @@ binary_level old mid new outer first second level e o left right is most one two
     (sym (operation_leveled (told old.shares.now) outer o (kind_found (term_seen left)) (kind_found (term_seen right)) (core_term known (held_access_count old) (term_seen left)) (core_term known (held_access_count old + term_accesses (term_seen left)) (term_seen right)) (levels_seen old)))
     (gives_greatest old mid new _ _ first second (term_accesses (term_seen left)) (term_accesses (term_seen right)) g h)))
 
-pub cast_level : {ways : Leads} (old new : Held) (outer level : ℕ) (e inner : Expr) (to : Kind) → form_seen e.form ≡ plain.converted (term_seen inner) to → LevelsTerm ways old new outer inner level → LevelsTerm ways old new outer e level
+pub cast_level : {ways : Leads} (old new : PhaseLevels) (outer level : ℕ) (e inner : Expr) (to : Kind) → form_seen e.form ≡ plain.converted (term_seen inner) to → LevelsTerm ways old new outer inner level → LevelsTerm ways old new outer e level
 cast_level old new outer level e inner to is h = by_form old new outer e level (plain.converted (term_seen inner) to) is (λ known u s low. h known u s low)
 
 -- Indices.
 
 -- what the rest of the indices comes to from here, all come to
-pub record TermsSo (ways : Leads) (known : Known) (start now : Held) (outer most : ℕ) (rest all : List Expr) : Type 0 where
+pub record TermsSo (ways : Leads) (known : Known) (start now : PhaseLevels) (outer most : ℕ) (rest all : List Expr) : Type 0 where
   pub led : IsLedBy ways known
   pub sound : HasSoundLevels now
   pub within : outer ≤ held_access_count now
-  pub so : (new : Held) (level : ℕ) → GivesLevel now new (terms_leveled (told now.shares.now) outer (core_terms known (held_access_count now) (terms (map term_seen rest))) (levels_seen now)) level (terms_accesses (terms (map term_seen rest)))
+  pub so : (new : PhaseLevels) (level : ℕ) → GivesLevel now new (terms_leveled (told now.shares.now) outer (core_terms known (held_access_count now) (terms (map term_seen rest))) (levels_seen now)) level (terms_accesses (terms (map term_seen rest)))
       → GivesLevel start new (terms_leveled (told start.shares.now) outer (core_terms known (held_access_count start) (terms (map term_seen all))) (levels_seen start)) (max most level) (terms_accesses (terms (map term_seen all)))
 
 max_assoc : (most a b : ℕ) → max most (max a b) ≡ max (max a most) b
 max_assoc most a b = grind arith
 
-pub terms_begin : {ways : Leads} (known : Known) (h : Held) (outer : ℕ) (all : List Expr) → IsLedBy ways known → HasSoundLevels h → outer ≤ held_access_count h → TermsSo ways known h h outer 0 all all
+pub terms_begin : {ways : Leads} (known : Known) (h : PhaseLevels) (outer : ℕ) (all : List Expr) → IsLedBy ways known → HasSoundLevels h → outer ≤ held_access_count h → TermsSo ways known h h outer 0 all all
 terms_begin known h outer all u s low = record {
   led = u;
   sound = s;
@@ -263,7 +263,7 @@ terms_begin known h outer all u s low = record {
   so = λ new level g. subst (λ (n : ℕ). GivesLevel h new (terms_leveled (told h.shares.now) outer (core_terms known (held_access_count h) (terms (map term_seen all))) (levels_seen h)) n (terms_accesses (terms (map term_seen all)))) (max_none level) g;
 }
 
-pub terms_turn : {ways : Leads} (known : Known) (start now next : Held) (outer most level more : ℕ) (all : List Expr) (i : ℕ) (e : Expr) → i < length all → e ≡ get_or all i e → more ≡ max level most → LevelsTerm ways now next outer e level → TermsSo ways known start now outer most (drop i all) all
+pub terms_turn : {ways : Leads} (known : Known) (start now next : PhaseLevels) (outer most level more : ℕ) (all : List Expr) (i : ℕ) (e : Expr) → i < length all → e ≡ get_or all i e → more ≡ max level most → LevelsTerm ways now next outer e level → TermsSo ways known start now outer most (drop i all) all
     → TermsSo ways known start next outer more (drop (i + 1) all) all
 terms_turn known start now next outer most level more all i e within is more_is one h =
     let g = one known h.led h.sound h.within in
@@ -284,7 +284,7 @@ terms_turn known start now next outer most level more all i e within is more_is 
           ∙ (ap (λ x. terms_leveled (told now.shares.now) outer (core_terms known x rest) (levels_seen next)) g.counted ∙ ap (λ x. terms_leveled (told now.shares.now) outer (core_terms known (held_access_count now + k) rest) x) g.seen)) behind))));
     }
 
-pub terms_end : {ways : Leads} (known : Known) (start now : Held) (outer most : ℕ) (rest all : List Expr) → rest ≡ [] → TermsSo ways known start now outer most rest all
+pub terms_end : {ways : Leads} (known : Known) (start now : PhaseLevels) (outer most : ℕ) (rest all : List Expr) → rest ≡ [] → TermsSo ways known start now outer most rest all
     → GivesLevel start now (terms_leveled (told start.shares.now) outer (core_terms known (held_access_count start) (terms (map term_seen all))) (levels_seen start)) most (terms_accesses (terms (map term_seen all)))
 terms_end known start now outer most rest all none h =
     subst (λ (n : ℕ). GivesLevel start now (terms_leveled (told start.shares.now) outer (core_terms known (held_access_count start) (terms (map term_seen all))) (levels_seen start)) n (terms_accesses (terms (map term_seen all)))) (max_last most)
@@ -296,7 +296,7 @@ terms_end known start now outer most rest all none h =
 one_more_of : (a b c k m : ℕ) → b ≡ a + (k + m) → c ≡ b + 1 → c ≡ a + (k + suc m)
 one_more_of a b c k m e f = omega (arith, e, f)
 
-pub stored : (old mid new : Held) (l : Levels) (k m : ℕ) → HasSoundLevels mid → levels_seen mid ≡ l → held_access_count mid ≡ held_access_count old + (k + m) → KeepsVariableLevels old mid → Skips mid new 1 → GivesLevels old new l (k + suc m)
+pub stored : (old mid new : PhaseLevels) (l : Levels) (k m : ℕ) → HasSoundLevels mid → levels_seen mid ≡ l → held_access_count mid ≡ held_access_count old + (k + m) → KeepsVariableLevels old mid → Skips mid new 1 → GivesLevels old new l (k + suc m)
 stored old mid new l k m s seen many keeps skips =
     let g = skips_gives mid new 1 s skips in
     record {
@@ -306,7 +306,7 @@ stored old mid new l k m s seen many keeps skips =
       keeps = keeps_both old mid new keeps g.keeps;
     }
 
-pub store_access : {ways : Leads} (old a b new : Held) (outer first second : ℕ) (target value : Expr) (r : Ref) (es : List Expr) → form_seen target.form ≡ plain.accessed r (terms (map term_seen es)) → LevelsTerm ways old a outer value first → LevelsTerms ways a b outer es second → Skips b new 1
+pub store_access : {ways : Leads} (old a b new : PhaseLevels) (outer first second : ℕ) (target value : Expr) (r : Ref) (es : List Expr) → form_seen target.form ≡ plain.accessed r (terms (map term_seen es)) → LevelsTerm ways old a outer value first → LevelsTerms ways a b outer es second → Skips b new 1
     → LevelsStore ways old new outer target value
 store_access old a b new outer first second target value r es is one two skips known u s low =
     let k = term_accesses (term_seen value) in
@@ -322,7 +322,7 @@ store_access old a b new outer first second target value r es is one two skips k
     (sym (ap (λ (x : Leveled). x.levels) (target_through (told old.shares.now) outer (way_of known r) (core_terms known (held_access_count old + k) ts) (term_leveled (told old.shares.now) outer (core_term known (held_access_count old) (term_seen value)) (levels_seen old)).levels)))
     (stored old b new _ k (terms_accesses ts) h.sound seen (sum_of (held_access_count old) (held_access_count a) (held_access_count b) k (terms_accesses ts) g.counted h.counted) (keeps_both old a b g.keeps h.keeps) skips))
 
-pub store_bank : {ways : Leads} (old a b new : Held) (outer first second : ℕ) (target value : Expr) (r : Ref) (bank : ℕ) (bank_place : Place) (row : Expr) → form_seen target.form ≡ plain.in_bank r bank bank_place (term_seen row) → LevelsTerm ways old a outer value first → LevelsTerm ways a b outer row second → Skips b new 1
+pub store_bank : {ways : Leads} (old a b new : PhaseLevels) (outer first second : ℕ) (target value : Expr) (r : Ref) (bank : ℕ) (bank_place : Place) (row : Expr) → form_seen target.form ≡ plain.in_bank r bank bank_place (term_seen row) → LevelsTerm ways old a outer value first → LevelsTerm ways a b outer row second → Skips b new 1
     → LevelsStore ways old new outer target value
 store_bank old a b new outer first second target value r bank bank_place row is one two skips known u s low =
     let k = term_accesses (term_seen value) in
@@ -354,7 +354,7 @@ nothing_stored shared outer known n place kind (plain.in_bank r bank bank_place 
 nothing_stored shared outer known n place kind (plain.applied o left right) v l h = refl
 nothing_stored shared outer known n place kind (plain.converted inner to) v l h = refl
 
-pub store_none : {ways : Leads} (old new : Held) (outer : ℕ) (target value : Expr) (f : TermForm) → form_seen target.form ≡ f → NoAccess f → SkipsStore old new target value → LevelsStore ways old new outer target value
+pub store_none : {ways : Leads} (old new : PhaseLevels) (outer : ℕ) (target value : Expr) (f : TermForm) → form_seen target.form ≡ f → NoAccess f → SkipsStore old new target value → LevelsStore ways old new outer target value
 store_none old new outer target value f is none skips known u s low =
     subst (λ (l : Levels). GivesLevels old new l (term_accesses (term_seen value) + term_accesses (term_seen target)))
     (nothing_stored (told old.shares.now) outer known (held_access_count old + term_accesses (term_seen value)) target.place target.kind (form_seen target.form) (core_term known (held_access_count old) (term_seen value)) (levels_seen old) (subst NoAccess (sym is) none))

@@ -6,7 +6,7 @@ use Rattle.std.proofs.Math.Seq.{take-suc}
 use Rattle.dh_events.specs.Tables.{with_number}
 use Rattle.dh_events.proofs.Turns.{at_place}
 use Rattle.dh_meaning.specs.Levels.{with_value}
-use Rattle.dh_lengths.specs.declared.undoing.Mark.{Mark}
+use Rattle.dh_lengths.specs.declared.undoing.LevelMark.{LevelMark}
 use Rattle.dh_lengths.specs.Undone.{mark, undone_levels, redone, marks_with_levels, joined_all, has_mark}
 
 absurd : {A : Type 0} → ⊥ → A
@@ -27,14 +27,14 @@ one_changed f e value = fun_ext (λ n. ap (λ b. if b then value else f n) (numb
 
 -- Loops.
 
-pub redo_turn : (ms : List Mark) (i : ℕ) (d : Mark) (f g all : ℕ → ℕ) → i < length ms → g ≡ with_number f (get_or ms i d).entity (get_or ms i d).level → redone (drop i ms) f ≡ all → redone (drop (i + 1) ms) g ≡ all
+pub redo_turn : (ms : List LevelMark) (i : ℕ) (d : LevelMark) (f g all : ℕ → ℕ) → i < length ms → g ≡ with_number f (get_or ms i d).entity (get_or ms i d).level → redone (drop i ms) f ≡ all → redone (drop (i + 1) ms) g ≡ all
 redo_turn ms i d f g all within set so = ap (λ h. redone (drop (i + 1) ms) h) set ∙ (sym (ap (λ l. redone l f) (at_place ms i d within)) ∙ so)
 
-pub join_turn : (test : ℕ) (ms : List Mark) (i : ℕ) (d : Mark) (f g all : ℕ → ℕ) → i < length ms → g ≡ with_number f (get_or ms i d).entity (max test (max (f (get_or ms i d).entity) (get_or ms i d).level)) → joined_all test (drop i ms) f ≡ all
+pub join_turn : (test : ℕ) (ms : List LevelMark) (i : ℕ) (d : LevelMark) (f g all : ℕ → ℕ) → i < length ms → g ≡ with_number f (get_or ms i d).entity (max test (max (f (get_or ms i d).entity) (get_or ms i d).level)) → joined_all test (drop i ms) f ≡ all
     → joined_all test (drop (i + 1) ms) g ≡ all
 join_turn test ms i d f g all within set so = ap (λ h. joined_all test (drop (i + 1) ms) h) set ∙ (sym (ap (λ l. joined_all test l f) (at_place ms i d within)) ∙ so)
 
-undone_one : (ms : List Mark) (m : Mark) (f : ℕ → ℕ) → undone_levels (ms ++ m ∷ []) f ≡ undone_levels ms (with_number f m.entity m.level)
+undone_one : (ms : List LevelMark) (m : LevelMark) (f : ℕ → ℕ) → undone_levels (ms ++ m ∷ []) f ≡ undone_levels ms (with_number f m.entity m.level)
 undone_one [] m f = refl
 undone_one (x ∷ ms) m f = ap (λ h. with_number h x.entity x.level) (undone_one ms m f)
 
@@ -44,7 +44,7 @@ back_one i e = omega (arith, e)
 before_end : (i n : ℕ) → 0 < i → i ≤ n → i - 1 < n
 before_end i n e f = omega (arith, e, f)
 
-pub undo_turn : (ms : List Mark) (i : ℕ) (d : Mark) (f g all : ℕ → ℕ) → 0 < i → i ≤ length ms → g ≡ with_number f (get_or ms (i - 1) d).entity (get_or ms (i - 1) d).level → undone_levels (take i ms) f ≡ all → undone_levels (take (i - 1) ms) g ≡ all
+pub undo_turn : (ms : List LevelMark) (i : ℕ) (d : LevelMark) (f g all : ℕ → ℕ) → 0 < i → i ≤ length ms → g ≡ with_number f (get_or ms (i - 1) d).entity (get_or ms (i - 1) d).level → undone_levels (take i ms) f ≡ all → undone_levels (take (i - 1) ms) g ≡ all
 undo_turn ms i d f g all some within set so =
     ap (λ h. undone_levels (take (i - 1) ms) h) set
     ∙ (sym (undone_one (take (i - 1) ms) (get_or ms (i - 1) d) f)
@@ -52,7 +52,7 @@ undo_turn ms i d f g all some within set so =
 
 -- Facts.
 
-pub undone_both : (xs ys : List Mark) (f : ℕ → ℕ) → undone_levels (xs ++ ys) f ≡ undone_levels xs (undone_levels ys f)
+pub undone_both : (xs ys : List LevelMark) (f : ℕ → ℕ) → undone_levels (xs ++ ys) f ≡ undone_levels xs (undone_levels ys f)
 undone_both [] ys f = refl
 undone_both (x ∷ xs) ys f = ap (λ h. with_number h x.entity x.level) (undone_both xs ys f)
 
@@ -60,7 +60,7 @@ or_assoc : (a b c : Bool) → (a || (b || c)) ≡ ((a || b) || c)
 or_assoc true b c = refl
 or_assoc false b c = refl
 
-pub marks_both : (e : ℕ) (xs ys : List Mark) → has_mark e (xs ++ ys) ≡ (has_mark e xs || has_mark e ys)
+pub marks_both : (e : ℕ) (xs ys : List LevelMark) → has_mark e (xs ++ ys) ≡ (has_mark e xs || has_mark e ys)
 marks_both e [] ys = refl
 marks_both e (x ∷ xs) ys = ap (λ b. (x.entity == e) || b) (marks_both e xs ys) ∙ or_assoc (x.entity == e) (has_mark e xs) (has_mark e ys)
 
@@ -73,7 +73,7 @@ put_back f g e level is = ap (λ h. with_number h e (g e)) is ∙ fun_ext (λ n.
     by_test n (inr t) = ap (λ b. if b then g e else (if n == e then level else g n)) t ∙ ap (λ b. if b then level else g n) (number_swap n e ∙ t)
 
 -- what is marked is as it was, whatever it is now; what is not is as it is now
-pub undone_there : (e : ℕ) (ms : List Mark) (f g : ℕ → ℕ) → has_mark e ms ≡ true → undone_levels ms f e ≡ undone_levels ms g e
+pub undone_there : (e : ℕ) (ms : List LevelMark) (f g : ℕ → ℕ) → has_mark e ms ≡ true → undone_levels ms f e ≡ undone_levels ms g e
 undone_there e [] f g h = absurd (untrue h)
   where
     untrue : false ≡ true → ⊥
@@ -84,7 +84,7 @@ undone_there e (m ∷ ms) f g h = by_test (m.entity == e) h (undone_there e ms f
     by_test true h rest = refl
     by_test false h rest = rest h
 
-pub undone_none : (e : ℕ) (ms : List Mark) (f : ℕ → ℕ) → has_mark e ms ≡ false → undone_levels ms f e ≡ f e
+pub undone_none : (e : ℕ) (ms : List LevelMark) (f : ℕ → ℕ) → has_mark e ms ≡ false → undone_levels ms f e ≡ f e
 undone_none e [] f h = refl
 undone_none e (m ∷ ms) f h = by_test (m.entity == e) h (undone_none e ms f)
   where
@@ -96,7 +96,7 @@ undone_none e (m ∷ ms) f h = by_test (m.entity == e) h (undone_none e ms f)
     by_test false h rest = rest h
 
 -- set again
-redone_at : (e : ℕ) (ms : List Mark) (v f : ℕ → ℕ) → redone (marks_with_levels v ms) f e ≡ (if has_mark e ms then v e else f e)
+redone_at : (e : ℕ) (ms : List LevelMark) (v f : ℕ → ℕ) → redone (marks_with_levels v ms) f e ≡ (if has_mark e ms then v e else f e)
 redone_at e [] v f = refl
 redone_at e (m ∷ ms) v f = redone_at e ms v (with_number f m.entity (v m.entity)) ∙ by_test (cases_Bool (m.entity == e))
   where
@@ -111,7 +111,7 @@ redone_at e (m ∷ ms) v f = redone_at e ms v (with_number f m.entity (v m.entit
     by_test (inr t) = ap (λ b. if has_mark e ms then v e else (if b then v m.entity else f e)) t ∙ sym (ap (λ b. if b || has_mark e ms then v e else f e) t)
 
 -- what was put back is set again
-pub redone_all : (ms : List Mark) (v : ℕ → ℕ) → redone (marks_with_levels v ms) (undone_levels ms v) ≡ v
+pub redone_all : (ms : List LevelMark) (v : ℕ → ℕ) → redone (marks_with_levels v ms) (undone_levels ms v) ≡ v
 redone_all ms v = fun_ext (λ e. redone_at e ms v (undone_levels ms v) ∙ by_test e (cases_Bool (has_mark e ms)))
   where
     by_test : (e : ℕ) → ((has_mark e ms) ≡ true) ⊎ ((has_mark e ms) ≡ false) → (if has_mark e ms then v e else undone_levels ms v e) ≡ v e
@@ -122,7 +122,7 @@ redone_all ms v = fun_ext (λ e. redone_at e ms v (undone_levels ms v) ∙ by_te
 twice : (t a b : ℕ) → max t (max (max t (max a b)) b) ≡ max t (max a b)
 twice t a b = grind arith
 
-joined_at : (test e : ℕ) (ms : List Mark) (v f : ℕ → ℕ) → joined_all test (marks_with_levels v ms) f e ≡ (if has_mark e ms then max test (max (f e) (v e)) else f e)
+joined_at : (test e : ℕ) (ms : List LevelMark) (v f : ℕ → ℕ) → joined_all test (marks_with_levels v ms) f e ≡ (if has_mark e ms then max test (max (f e) (v e)) else f e)
 joined_at test e [] v f = refl
 joined_at test e (m ∷ ms) v f = joined_at test e ms v (with_number f m.entity (max test (max (f m.entity) (v m.entity)))) ∙ by_test (cases_Bool (m.entity == e))
   where
@@ -145,7 +145,7 @@ joined_at test e (m ∷ ms) v f = joined_at test e ms v (with_number f m.entity 
         ∙ sym (ap (λ b. if b || has_mark e ms then max test (max (f e) (v e)) else f e) t)
 
 -- behind both arms: what one of them set has the levels of both and of the test
-pub joined_both : (test : ℕ) (xs ys : List Mark) (before first second : ℕ → ℕ) → undone_levels xs first ≡ before
+pub joined_both : (test : ℕ) (xs ys : List LevelMark) (before first second : ℕ → ℕ) → undone_levels xs first ≡ before
     → (e : ℕ) → joined_all test (marks_with_levels second (xs ++ ys)) first e ≡ (if has_mark e xs || has_mark e ys then max test (max (first e) (second e)) else before e)
 joined_both test xs ys before first second undoes e = joined_at test e (xs ++ ys) second first ∙ by_test (cases_Bool (has_mark e (xs ++ ys)))
   where
@@ -163,7 +163,7 @@ joined_both test xs ys before first second undoes e = joined_at test e (xs ++ ys
         ∙ sym (ap (λ b. if b then max test (max (first e) (second e)) else before e) (sym (marks_both e xs ys) ∙ t))))
 
 -- and both together put back what was before
-pub both_undone : (xs ys : List Mark) (before first second joined : ℕ → ℕ) → undone_levels xs first ≡ before → undone_levels ys second ≡ before
+pub both_undone : (xs ys : List LevelMark) (before first second joined : ℕ → ℕ) → undone_levels xs first ≡ before → undone_levels ys second ≡ before
     → ((e : ℕ) → (has_mark e xs || has_mark e ys) ≡ false → joined e ≡ before e) → undone_levels (xs ++ ys) joined ≡ before
 both_undone xs ys before first second joined one two rest = undone_both xs ys joined ∙ fun_ext (λ e. by_first e (cases_Bool (has_mark e xs)))
   where

@@ -13,8 +13,8 @@ use Rattle.dh_meaning.specs.Levels.{Levels, term_leveled, with_value, with_varia
 use Rattle.dh_meaning.specs.Ways.{Hidden, hidden_in}
 use Rattle.dh_lengths.specs.declared.leads.Leads.{Leads}
 use Rattle.dh_events.specs.Tables.{table_at}
-use Rattle.dh_lengths.specs.declared.held.Held.{Held}
-use Rattle.dh_lengths.specs.declared.undoing.Mark.{Mark}
+use Rattle.dh_lengths.specs.declared.held.PhaseLevels.{PhaseLevels}
+use Rattle.dh_lengths.specs.declared.undoing.LevelMark.{LevelMark}
 use Rattle.dh_lengths.specs.SharedReads.{told}
 use Rattle.dh_lengths.specs.Undone.{has_mark, undone_levels}
 use Rattle.dh_lengths.specs.HeldLevels.{held_access_count, levels_seen, HasSoundLevels, KeepsVariableLevels, Leveling}
@@ -35,7 +35,7 @@ set_levels_from first [] l = l
 set_levels_from first (n ∷ ns) l = with_variables (set_levels_from (suc first) ns l) (with_value (set_levels_from (suc first) ns l).variables first n)
 
 -- the level of each value, with the levels behind them
-pub record GivesEach (old new : Held) (each : List ℕ) (behind : Levels) (levels : List ℕ) (n : ℕ) : Type 0 where
+pub record GivesEach (old new : PhaseLevels) (each : List ℕ) (behind : Levels) (levels : List ℕ) (n : ℕ) : Type 0 where
   pub is : levels ≡ each
   pub seen : levels_seen new ≡ behind
   pub sound : HasSoundLevels new
@@ -43,18 +43,18 @@ pub record GivesEach (old new : Held) (each : List ℕ) (behind : Levels) (level
   pub counted : held_access_count new ≡ held_access_count old + n
   pub keeps : KeepsVariableLevels old new
 
-abbrev pub LevelsEach : Leads → (old new : Held) → (outer : ℕ) → List Term → (levels : List ℕ) → Type 0
+abbrev pub LevelsEach : Leads → (old new : PhaseLevels) → (outer : ℕ) → List Term → (levels : List ℕ) → Type 0
 LevelsEach ways old new outer ts levels =
     Leveling ways old outer (λ known.
     GivesEach old new (each_level (told old.shares.now) outer (core_terms known (held_access_count old) (terms ts)) (levels_seen old)) (levels_behind (told old.shares.now) outer (core_terms known (held_access_count old) (terms ts)) (levels_seen old)) levels (terms_accesses (terms ts)))
 
 -- the variables from one on have these levels
-pub record SetsLevels (old new : Held) (first : ℕ) (levels : List ℕ) : Type 0 where
+pub record SetsLevels (old new : PhaseLevels) (first : ℕ) (levels : List ℕ) : Type 0 where
   pub seen : levels_seen new ≡ set_levels_from first levels (levels_seen old)
   pub reads : new.reads.items ≡ old.reads.items
   pub shares : new.shares.now ≡ old.shares.now
   pub begun : new.first ≡ old.first
-  pub changes : List Mark
+  pub changes : List LevelMark
   pub log : new.log.items ≡ old.log.items ++ changes
   pub undoes : undone_levels changes (table_at new.variables.items) ≡ table_at old.variables.items
   pub marks : (e : ℕ) → has_mark e changes ≡ (nat_le first e && nat_lt e (first + length levels))
@@ -68,7 +68,7 @@ abbrev pub first_kept : Leads → Option ℕ → Option ℕ
 first_kept ways entity = first_hidden_variable (hidden_in (way_by ways entity))
 
 -- a view's command
-abbrev pub LevelsView : Leads → (old new : Held) → (outer : ℕ) → Ref → ViewForm → Type 0
+abbrev pub LevelsView : Leads → (old new : PhaseLevels) → (outer : ℕ) → Ref → ViewForm → Type 0
 LevelsView ways old new outer name form =
     Leveling ways old outer (λ known.
     GivesCommands old new outer (kept_by (hidden_in (way_of known name)) (core_terms known (held_access_count old) (terms (offsets_of (view_plan form)))) no_commands) (plan_accesses (view_plan form)))

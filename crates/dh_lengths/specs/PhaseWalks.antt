@@ -16,8 +16,8 @@ use Rattle.dh_lengths.specs.declared.leads.Leads.{Leads}
 use Rattle.dh_lengths.specs.LedBy.{IsLedBy}
 use Rattle.dh_tree.specs.PhaseKinds.{phase_kind, form_phase_kind}
 use Rattle.dh_events.specs.Tables.{table_at}
-use Rattle.dh_lengths.specs.declared.held.Held.{Held}
-use Rattle.dh_lengths.specs.declared.lengths.Walk.{Walk}
+use Rattle.dh_lengths.specs.declared.held.PhaseLevels.{PhaseLevels}
+use Rattle.dh_lengths.specs.declared.lengths.PhaseWalk.{PhaseWalk}
 use Rattle.dh_lengths.specs.PhaseBlocks.{blocks_in}
 use Rattle.dh_lengths.specs.SharedReads.{told}
 use Rattle.dh_lengths.specs.Undone.{undone_levels}
@@ -106,7 +106,7 @@ abbrev mutual
 
 -- the walk stands behind a line of phases, whose lengths it tells behind others: all but those of the open phase,
 -- whose levels it holds
-pub record WalkStandsBehind (known : Known) (base : List ℕ) (w : Walk) (line : List Phase) : Type 0 where
+pub record WalkStandsBehind (known : Known) (base : List ℕ) (w : PhaseWalk) (line : List Phase) : Type 0 where
   pub lengths : w.lengths.items ≡ base ++ lengths_in (told w.held.shares.now) known (front line)
   pub seen : levels_seen w.held ≡ commands_leveled (told w.held.shares.now) 0 (core_commands known (last_open line)) level_ground
   pub open_so : w.pending ≡ is_some_command (last_open line)
@@ -117,29 +117,29 @@ pub record WalkStandsBehind (known : Known) (base : List ℕ) (w : Walk) (line :
 -- What steps make of it.
 
 -- the length of the phase that is held is told, and it is over
-pub record TellsPhaseLength (old new : Walk) : Type 0 where
+pub record TellsPhaseLength (old new : PhaseWalk) : Type 0 where
   pub lengths : new.lengths.items ≡ old.lengths.items ++ (min old.held.most (held_access_count old.held) + 1) ∷ []
   pub ends : EndsPhase old.held new.held
   pub going : new.going ≡ old.going
   pub open_so : new.pending ≡ old.pending
 
 -- all phases of the line are told
-pub record IsClosed (known : Known) (base : List ℕ) (line : List Phase) (old new : Walk) : Type 0 where
+pub record IsClosed (known : Known) (base : List ℕ) (line : List Phase) (old new : PhaseWalk) : Type 0 where
   pub stands : WalkStandsBehind known (base ++ lengths_in (told old.held.shares.now) known line) new []
   pub going : new.going ≡ false
   pub counted : held_access_count new.held ≡ held_access_count old.held
   pub shares : new.held.shares.now ≡ old.held.shares.now
 
-abbrev pub Closes : (old new : Walk) → Type 0
+abbrev pub Closes : (old new : PhaseWalk) → Type 0
 Closes old new = (known : Known) (base : List ℕ) (line : List Phase) → WalkStandsBehind known base old line → IsClosed known base line old new
 
 -- a phase goes on, or the next one begins
-abbrev pub OpensBy : (going : Bool) → (old new : Walk) → Type 0
+abbrev pub OpensBy : (going : Bool) → (old new : PhaseWalk) → Type 0
 OpensBy true old new = new ≡ old
 OpensBy false old new = Closes old new
 
 -- a test is told behind all phases of the line
-pub record TestIsTold (known : Known) (base : List ℕ) (line : List Phase) (test : Expr) (old new : Walk) : Type 0 where
+pub record TestIsTold (known : Known) (base : List ℕ) (line : List Phase) (test : Expr) (old new : PhaseWalk) : Type 0 where
   pub stands : WalkStandsBehind known
       ((base ++ lengths_in (told old.held.shares.now) known line) ++ block_length (told old.held.shares.now) (tests (core_term known (held_access_count old.held) (term_seen test))) ∷ [])
       new []
@@ -147,27 +147,27 @@ pub record TestIsTold (known : Known) (base : List ℕ) (line : List Phase) (tes
   pub counted : held_access_count new.held ≡ held_access_count old.held + term_accesses (term_seen test)
   pub shares : new.held.shares.now ≡ old.held.shares.now
 
-abbrev pub WalksTest : (ways : Leads) → (old new : Walk) → Expr → Type 0
+abbrev pub WalksTest : (ways : Leads) → (old new : PhaseWalk) → Expr → Type 0
 WalksTest ways old new test = (known : Known) → IsLedBy ways known → (base : List ℕ) (line : List Phase) → WalkStandsBehind known base old line → TestIsTold known base line test old new
 
 -- further phases, with so many accesses
-pub record PhasesAreWalked (known : Known) (base : List ℕ) (line : List Phase) (old new : Walk) (further : List Phase) (n : ℕ) : Type 0 where
+pub record PhasesAreWalked (known : Known) (base : List ℕ) (line : List Phase) (old new : PhaseWalk) (further : List Phase) (n : ℕ) : Type 0 where
   pub stands : WalkStandsBehind known base new (put_phases old.going line further)
   pub going : new.going ≡ last_phase_goes_on old.going further
   pub counted : held_access_count new.held ≡ held_access_count old.held + n
   pub shares : new.held.shares.now ≡ old.held.shares.now
 
-abbrev pub WalksStraight : (ways : Leads) → (old new : Walk) → Command → Type 0
+abbrev pub WalksStraight : (ways : Leads) → (old new : PhaseWalk) → Command → Type 0
 WalksStraight ways old new c =
     (known : Known) → IsLedBy ways known → (r : Around) (base : List ℕ) (line : List Phase) → phase_kind (action_seen c) ≡ 1 → WalkStandsBehind known base old line
     → PhasesAreWalked known base line old new (phases r (held_access_count old.held) (action_seen c)) (accesses_of (action_seen c))
 
-abbrev pub WalksCommand : (ways : Leads) → (stages : List ℕ) → (old new : Walk) → Command → Type 0
+abbrev pub WalksCommand : (ways : Leads) → (stages : List ℕ) → (old new : PhaseWalk) → Command → Type 0
 WalksCommand ways stages old new c =
     (known : Known) → IsLedBy ways known → (r : Around) (base : List ℕ) (line : List Phase) → TellsStages (table_at stages) (action_seen c) → WalkStandsBehind known base old line
     → PhasesAreWalked known base line old new (phases r (held_access_count old.held) (action_seen c)) (accesses_of (action_seen c))
 
-abbrev pub WalksOther : (ways : Leads) → (stages : List ℕ) → (old new : Walk) → Option (Box Command Global) → Type 0
+abbrev pub WalksOther : (ways : Leads) → (stages : List ℕ) → (old new : PhaseWalk) → Option (Box Command Global) → Type 0
 WalksOther ways stages old new other =
     (known : Known) → IsLedBy ways known → (r : Around) (base : List ℕ) (line : List Phase) → TellOther (table_at stages) (maybe_seen (option_map (λ b. action_seen b.value) other)) → WalkStandsBehind known base old line
     → PhasesAreWalked known base line old new (other_phases r (held_access_count old.held) (maybe_seen (option_map (λ b. action_seen b.value) other))) (other_accesses (maybe_seen (option_map (λ b. action_seen b.value) other)))

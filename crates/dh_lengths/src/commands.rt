@@ -3,7 +3,7 @@
 ghost use Rattle.std.specs.Prelude.{OnOk};
 ghost use Rattle.dh_lengths.specs.LeveledCommands.{LevelsCommand, LevelsOther, LevelsReduce};
 
-use crate::held::Held;
+use crate::held::PhaseLevels;
 use crate::leads::Leads;
 use crate::skipping::skip_command;
 use crate::terms::{level_maybe, level_store, level_term};
@@ -15,7 +15,7 @@ use std::alloc::Global;
 
 /// A reducer: what the variable holds and a value are put together.
 fn level_reduce(
-    held: &mut Held<'_>,
+    held: &mut PhaseLevels<'_>,
     ways: &Leads<'_>,
     outer: usize,
     target: &Ref,
@@ -32,7 +32,7 @@ fn level_reduce(
 #[cycle(level_command)]
 pub fn level_command(
     alloc: Global,
-    held: &mut Held<'_>,
+    held: &mut PhaseLevels<'_>,
     ways: &Leads<'_>,
     outer: usize,
     command: &Command,
@@ -89,7 +89,7 @@ pub fn level_command(
 #[cycle(level_command)]
 fn level_other(
     alloc: Global,
-    held: &mut Held<'_>,
+    held: &mut PhaseLevels<'_>,
     ways: &Leads<'_>,
     outer: usize,
     other: &Option<Box<Command>>,

@@ -5,14 +5,14 @@ ghost use Rattle.dh_meaning.specs.CoreOf.{entity_number};
 ghost use Rattle.dh_lengths.specs.HeldLevels.{read_in, variable_in, AssignsAt, AssignsLevel, EndsPhase, ReadsNext};
 ghost use Rattle.dh_lengths.specs.SharedReads as reads;
 
-use crate::undoing::{Mark, undo};
+use crate::undoing::{LevelMark, undo};
 use dh_base::NoMemory;
 use dh_events::{get_at, get_number, set_number};
 
 /// The levels of the reads and variables of a phase: the clock of the phase's step at which each value is
 /// there, from 0.
 #[derive(Drop)]
-pub struct Held<'a> {
+pub struct PhaseLevels<'a> {
     /// Of each access of the program the earlier read that it shares.
     pub shares: &'a [Option<usize>],
     /// The level of each read so far, by its number; 0 for other accesses.
@@ -24,7 +24,7 @@ pub struct Held<'a> {
     /// The level of each variable, by its entity; 0 where it was not set in the phase.
     pub variables: Vec<usize>,
     /// The levels before each change of the phase.
-    pub log: Vec<Mark>,
+    pub log: Vec<LevelMark>,
 }
 
 /// The read that an access shares.
@@ -61,7 +61,7 @@ fn number_of(entity: Option<u32>) -> u32
     }
 }
 
-impl Held<'_> {
+impl PhaseLevels<'_> {
     /// Notes the next read, inside tests of a level, whose indices have a level. Gives its level.
     pub fn read(&mut self, outer: usize, indices: usize) -> Result<usize, NoMemory>
         ensures { IfOk result (λ level. ReadsNext self.old self.new outer indices level) }
@@ -88,7 +88,7 @@ impl Held<'_> {
         ensures { OnOk result (AssignsAt self.old self.new place level) }
     {
         let before = get_number(self.variables.as_slice(), place);
-        self.log.push(Mark {
+        self.log.push(LevelMark {
             entity: place,
             level: before,
         })?;

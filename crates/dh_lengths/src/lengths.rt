@@ -11,7 +11,7 @@ ghost use Rattle.dh_lengths.specs.PhaseBlocks.{lengths_of};
 ghost use Rattle.dh_lengths.specs.PhaseWalks.{Closes, OpensBy, TellsPhaseLength, WalksCommand, WalksOther, WalksStraight, WalksTest};
 
 use crate::commands::level_command;
-use crate::held::Held;
+use crate::held::PhaseLevels;
 use crate::leads::Leads;
 use crate::sharing::shared_reads;
 use crate::skipping::skip_command;
@@ -24,9 +24,9 @@ use std::alloc::Global;
 
 /// Where a walk along phases stands.
 #[derive(Drop)]
-pub struct Walk<'a> {
+pub struct PhaseWalk<'a> {
     /// The levels of the open phase.
-    pub held: Held<'a>,
+    pub held: PhaseLevels<'a>,
     /// Whether a straight phase is open, which was not told its length yet.
     pub pending: bool,
     /// Whether the next straight command joins it.
@@ -36,7 +36,7 @@ pub struct Walk<'a> {
 }
 
 /// Tells the length of the phase whose levels are held, and ends it.
-fn tell(walk: &mut Walk<'_>) -> Result<(), NoMemory>
+fn tell(walk: &mut PhaseWalk<'_>) -> Result<(), NoMemory>
     ensures { OnOk result (TellsPhaseLength walk.old walk.new) }
 {
     let most = walk.held.most.min(walk.held.reads.len());
@@ -45,7 +45,7 @@ fn tell(walk: &mut Walk<'_>) -> Result<(), NoMemory>
 }
 
 /// Ends the open phase, if there is one.
-fn close(walk: &mut Walk<'_>) -> Result<(), NoMemory>
+fn close(walk: &mut PhaseWalk<'_>) -> Result<(), NoMemory>
     ensures { OnOk result (Closes walk.old walk.new) }
 {
     if walk.pending {
@@ -57,14 +57,14 @@ fn close(walk: &mut Walk<'_>) -> Result<(), NoMemory>
 }
 
 /// Ends the open phase, where the next straight command does not join it.
-fn open_phase(walk: &mut Walk<'_>) -> Result<(), NoMemory>
+fn open_phase(walk: &mut PhaseWalk<'_>) -> Result<(), NoMemory>
     ensures { OnOk result (OpensBy walk.old.going walk.old walk.new) }
 {
     if walk.going { Ok(()) } else { close(walk) }
 }
 
 /// A test, which is a phase of its own.
-fn walk_test(walk: &mut Walk<'_>, ways: &Leads<'_>, test: &Expr) -> Result<(), NoMemory>
+fn walk_test(walk: &mut PhaseWalk<'_>, ways: &Leads<'_>, test: &Expr) -> Result<(), NoMemory>
     ensures { OnOk result (WalksTest ways.now walk.old walk.new test.now) }
 {
     close(walk)?;
@@ -75,7 +75,7 @@ fn walk_test(walk: &mut Walk<'_>, ways: &Leads<'_>, test: &Expr) -> Result<(), N
 /// A straight command.
 fn walk_straight(
     alloc: Global,
-    walk: &mut Walk<'_>,
+    walk: &mut PhaseWalk<'_>,
     ways: &Leads<'_>,
     command: &Command,
 ) -> Result<(), NoMemory>
@@ -92,7 +92,7 @@ fn walk_straight(
 #[cycle(walking)]
 fn walk_command(
     alloc: Global,
-    walk: &mut Walk<'_>,
+    walk: &mut PhaseWalk<'_>,
     ways: &Leads<'_>,
     stages: &[usize],
     command: &Command,
@@ -150,7 +150,7 @@ fn walk_command(
 #[cycle(walking)]
 fn walk_other(
     alloc: Global,
-    walk: &mut Walk<'_>,
+    walk: &mut PhaseWalk<'_>,
     ways: &Leads<'_>,
     stages: &[usize],
     other: &Option<Box<Command>>,
@@ -183,8 +183,8 @@ pub fn phase_lengths(alloc: Global, program: &Typed) -> Result<Vec<u64>, NoMemor
     let shares = shared_reads(alloc, body)?;
     let mut stages = Vec::new(alloc);
     note_stages(&mut stages, body)?;
-    let mut walk = Walk {
-        held: Held {
+    let mut walk = PhaseWalk {
+        held: PhaseLevels {
             shares: shares.as_slice(),
             reads: Vec::new(alloc),
             first: 0,

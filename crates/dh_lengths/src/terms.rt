@@ -5,7 +5,7 @@ ghost use Rattle.dh_lengths.specs.HeldLevels.{hidden_level, level_through as thr
 ghost use Rattle.dh_events.specs.Tables.{table_at};
 ghost use Rattle.dh_ways.specs.Seen.{hidden_seen};
 
-use crate::held::Held;
+use crate::held::PhaseLevels;
 use crate::leads::{Leads, way_of};
 use crate::skipping::{skip, skip_term};
 use dh_base::NoMemory;
@@ -43,7 +43,12 @@ fn level_on(variables: &[usize], way: &WayRef<'_>, level: usize) -> usize
 }
 
 /// The level of what names an element, by that of its indices: through views it is not before their offsets.
-fn level_through(held: &Held<'_>, ways: &Leads<'_>, entity: Option<u32>, level: usize) -> usize
+fn level_through(
+    held: &PhaseLevels<'_>,
+    ways: &Leads<'_>,
+    entity: Option<u32>,
+    level: usize,
+) -> usize
     ensures { result ≡ through ways.now (levels_seen held.now).variables entity level }
 {
     match way_of(ways, entity) {
@@ -55,7 +60,7 @@ fn level_through(held: &Held<'_>, ways: &Leads<'_>, entity: Option<u32>, level: 
 /// The level of an expression inside tests of a level. Notes those of its reads.
 #[cycle(leveling)]
 pub fn level_term(
-    held: &mut Held<'_>,
+    held: &mut PhaseLevels<'_>,
     ways: &Leads<'_>,
     outer: usize,
     value: &Expr,
@@ -87,7 +92,7 @@ pub fn level_term(
 /// The greatest level of indices. Notes those of their reads.
 #[cycle(leveling)]
 fn level_terms(
-    held: &mut Held<'_>,
+    held: &mut PhaseLevels<'_>,
     ways: &Leads<'_>,
     outer: usize,
     indices: &[Expr],
@@ -104,7 +109,7 @@ fn level_terms(
 
 /// The level of what a `let` sets its variable to; 0 where it has no right side.
 pub fn level_maybe(
-    held: &mut Held<'_>,
+    held: &mut PhaseLevels<'_>,
     ways: &Leads<'_>,
     outer: usize,
     value: &Option<Expr>,
@@ -118,7 +123,7 @@ pub fn level_maybe(
 }
 
 /// Notes level 0 of the accesses of a store to what is no access, which stores nothing.
-fn skip_store(held: &mut Held<'_>, target: &Expr, value: &Expr) -> Result<(), NoMemory>
+fn skip_store(held: &mut PhaseLevels<'_>, target: &Expr, value: &Expr) -> Result<(), NoMemory>
     ensures { OnOk result (SkipsStore held.old held.new target.now value.now) }
 {
     skip_term(&mut held.reads, value)?;
@@ -127,7 +132,7 @@ fn skip_store(held: &mut Held<'_>, target: &Expr, value: &Expr) -> Result<(), No
 
 /// Notes the levels of the reads of a store, and of the write.
 pub fn level_store(
-    held: &mut Held<'_>,
+    held: &mut PhaseLevels<'_>,
     ways: &Leads<'_>,
     outer: usize,
     target: &Expr,

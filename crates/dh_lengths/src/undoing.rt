@@ -10,7 +10,7 @@ use std::alloc::Global;
 
 /// The level of a variable at some moment.
 #[derive(Clone, Copy)]
-pub struct Mark {
+pub struct LevelMark {
     /// The number of its entity.
     pub entity: usize,
     /// The level.
@@ -18,14 +18,14 @@ pub struct Mark {
 }
 
 /// The marks from a place on.
-pub fn since(log: &[Mark], mark: usize) -> &[Mark]
+pub fn since(log: &[LevelMark], mark: usize) -> &[LevelMark]
     ensures { result.now ≡ drop mark log.now }
 {
     if mark <= log.len() { &log[mark..] } else { &[] }
 }
 
 /// Puts levels back to what marks say, the last of them first.
-pub fn undo(variables: &mut Vec<usize>, log: &[Mark]) -> Result<(), NoMemory>
+pub fn undo(variables: &mut Vec<usize>, log: &[LevelMark]) -> Result<(), NoMemory>
     ensures { OnOk result (table_at variables.new.items
         ≡ undone_levels log.now (table_at variables.old.items)) }
 {
@@ -37,7 +37,7 @@ pub fn undo(variables: &mut Vec<usize>, log: &[Mark]) -> Result<(), NoMemory>
 }
 
 /// Sets levels to what marks say, in order.
-pub fn redo(variables: &mut Vec<usize>, marks: &[Mark]) -> Result<(), NoMemory>
+pub fn redo(variables: &mut Vec<usize>, marks: &[LevelMark]) -> Result<(), NoMemory>
     ensures { OnOk result (table_at variables.new.items
         ≡ redone marks.now (table_at variables.old.items)) }
 {
@@ -48,12 +48,16 @@ pub fn redo(variables: &mut Vec<usize>, marks: &[Mark]) -> Result<(), NoMemory>
 }
 
 /// The levels that the variables of marks have now.
-pub fn marks_of(alloc: Global, variables: &[usize], log: &[Mark]) -> Result<Vec<Mark>, NoMemory>
+pub fn marks_of(
+    alloc: Global,
+    variables: &[usize],
+    log: &[LevelMark],
+) -> Result<Vec<LevelMark>, NoMemory>
     ensures { IfOk result (λ marks. marks.items ≡ marks_with_levels (table_at variables.now) log.now) }
 {
     let mut marks = Vec::new(alloc);
     for mark in log {
-        marks.push(Mark {
+        marks.push(LevelMark {
             entity: mark.entity,
             level: get_number(variables, mark.entity),
         })?;
@@ -63,7 +67,7 @@ pub fn marks_of(alloc: Global, variables: &[usize], log: &[Mark]) -> Result<Vec<
 
 /// Raises levels to those of marks and to that of a test, where those of the marks are set in one of two
 /// arms.
-pub fn join(variables: &mut Vec<usize>, marks: &[Mark], test: usize) -> Result<(), NoMemory>
+pub fn join(variables: &mut Vec<usize>, marks: &[LevelMark], test: usize) -> Result<(), NoMemory>
     ensures { OnOk result (JoinsLevels test marks.now variables.old.items variables.new.items) }
 {
     for mark in marks {

@@ -5,7 +5,7 @@ ghost use Rattle.dh_tree.specs.Seen.{factor_seen, view_plan, term_seen};
 ghost use Rattle.dh_tree.specs.ViewOffsets.{offsets_of};
 ghost use Rattle.dh_lengths.specs.KeptLevels.{first_kept, LevelsEach, LevelsView, SetsLevels};
 
-use crate::held::Held;
+use crate::held::PhaseLevels;
 use crate::leads::{Leads, way_of};
 use crate::skipping::skip_offsets;
 use crate::terms::level_term;
@@ -16,7 +16,7 @@ use std::alloc::Global;
 /// The levels of expressions, in order. Notes those of their reads.
 fn level_all(
     alloc: Global,
-    held: &mut Held<'_>,
+    held: &mut PhaseLevels<'_>,
     ways: &Leads<'_>,
     outer: usize,
     values: &[Expr],
@@ -34,7 +34,7 @@ fn level_all(
 /// The levels of the offsets of a suffix, in order. Notes those of their reads.
 fn level_suffixes(
     alloc: Global,
-    held: &mut Held<'_>,
+    held: &mut PhaseLevels<'_>,
     ways: &Leads<'_>,
     outer: usize,
     by: &[(u64, Expr)],
@@ -52,7 +52,7 @@ fn level_suffixes(
 /// The levels of the offsets of a view, in order. Notes those of their reads.
 fn level_offsets(
     alloc: Global,
-    held: &mut Held<'_>,
+    held: &mut PhaseLevels<'_>,
     ways: &Leads<'_>,
     outer: usize,
     form: &ViewForm,
@@ -69,7 +69,7 @@ fn level_offsets(
 }
 
 /// Variables from a number on are set to these levels.
-fn keep_levels(held: &mut Held<'_>, first: u32, levels: &[usize]) -> Result<(), NoMemory>
+fn keep_levels(held: &mut PhaseLevels<'_>, first: u32, levels: &[usize]) -> Result<(), NoMemory>
     ensures { OnOk result (SetsLevels held.old held.new first levels.now) }
 {
     for i in (0..levels.len()).rev() {
@@ -94,7 +94,7 @@ fn first_hidden(ways: &Leads<'_>, entity: Option<u32>) -> Option<u32>
 /// Notes the levels that the command of a view makes: each offset is kept in a variable of its own.
 pub fn level_view(
     alloc: Global,
-    held: &mut Held<'_>,
+    held: &mut PhaseLevels<'_>,
     ways: &Leads<'_>,
     outer: usize,
     name: &Ref,

@@ -21,9 +21,9 @@ use Rattle.dh_tree.specs.NameCounts.{declared_in, declared_in_functions, names_d
 use Rattle.dh_tree.specs.Forms.{unbuilt_forms}
 use Rattle.dh_names.specs.Visible.{visible, LeastBy}
 use Rattle.dh_names.specs.Walks.{NamingState, state_of, walked}
-use Rattle.dh_names.specs.declared.scopes.Names.{Names}
-use Rattle.dh_names.specs.declared.walks.Walk.{Walk}
-use Rattle.dh_names.specs.declared.programs.Found.{Found}
+use Rattle.dh_names.specs.declared.scopes.VisibleNames.{VisibleNames}
+use Rattle.dh_names.specs.declared.walks.NameWalk.{NameWalk}
+use Rattle.dh_names.specs.declared.programs.WalkFindings.{WalkFindings}
 
 -- a walk over the parameters of a function
 pub record ResolvesFormals (old new : NamingState) (a b : List Formal) : Type 0 where
@@ -49,13 +49,13 @@ pub record ResolvesFunctions (n : ℕ) (old new : NamingState) (a b : List Defin
 
 -- the code's walk over parameters in order, over a function that is entity number n, and over functions
 -- of which the first is so
-abbrev pub NumbersParameters : (old new : Walk) → (a b : Vec Parameter Global) → Type 0
+abbrev pub NumbersParameters : (old new : NameWalk) → (a b : Vec Parameter Global) → Type 0
 NumbersParameters old new a b = ResolvesFormals (state_of old) (state_of new) (map formal_seen a.items) (map formal_seen b.items)
 
-abbrev pub NumbersFunction : ℕ → (old new : Walk) → (a b : Function) → Type 0
+abbrev pub NumbersFunction : ℕ → (old new : NameWalk) → (a b : Function) → Type 0
 NumbersFunction n old new a b = ResolvesFunction n (state_of old) (state_of new) (defined_seen a) (defined_seen b)
 
-abbrev pub NumbersFunctions : ℕ → (old new : Walk) → (a b : Vec Function Global) → Type 0
+abbrev pub NumbersFunctions : ℕ → (old new : NameWalk) → (a b : Vec Function Global) → Type 0
 NumbersFunctions n old new a b = ResolvesFunctions n (state_of old) (state_of new) (map defined_seen a.items) (map defined_seen b.items)
 
 -- how many names functions declare
@@ -112,18 +112,18 @@ pub record LacksNext (decls : List Decl) (functions : List Function) (old : List
   pub least : new_least ≡ old_least
 
 -- the same of the names that the code keeps
-abbrev pub BindsItem : List Decl → List Function → (old : Names) → (old_least : Option Breach) → (done : ℕ × ℕ) → (new : Names) → (new_least : Option Breach) → (after : ℕ × ℕ) → Type 0
+abbrev pub BindsItem : List Decl → List Function → (old : VisibleNames) → (old_least : Option Breach) → (done : ℕ × ℕ) → (new : VisibleNames) → (new_least : Option Breach) → (after : ℕ × ℕ) → Type 0
 BindsItem decls functions old old_least done new new_least after = BindsNext decls functions (visible old) old_least done (visible new) new_least after
 
-abbrev pub LacksItem : List Decl → List Function → (old : Names) → (old_least : Option Breach) → (done : ℕ × ℕ) → (new : Names) → (new_least : Option Breach) → Type 0
+abbrev pub LacksItem : List Decl → List Function → (old : VisibleNames) → (old_least : Option Breach) → (done : ℕ × ℕ) → (new : VisibleNames) → (new_least : Option Breach) → Type 0
 LacksItem decls functions old old_least done new new_least = LacksNext decls functions (visible old) old_least done (visible new) new_least
 
 -- memories from outside and functions are made visible, in text order
-abbrev pub BindsItems : List Decl → List Function → (old new : Names) → Type 0
+abbrev pub BindsItems : List Decl → List Function → (old new : VisibleNames) → Type 0
 BindsItems decls functions old new = visible new ≡ after_items (visible old) (left decls functions (0, 0))
 
 -- the least is kept of the breach that was kept and those of their names, each of which was visible already
-abbrev pub FindsTwice : List Decl → List Function → Names → (old new : Option Breach) → Type 0
+abbrev pub FindsTwice : List Decl → List Function → VisibleNames → (old new : Option Breach) → Type 0
 FindsTwice decls functions names old new = LeastBy items_breaches names old new (left decls functions (0, 0))
 
 -- a program is answered by its tree with entities where no name breaks a rule, and else by the breach
@@ -142,7 +142,7 @@ AnswersBuilt p (Err fault.NoMemory) = 0 < names_declared p
 
 -- where a walk over a program starts: no name is visible, nothing is listed and nothing found, and no name is
 -- kept for the program's body
-pub record IsStart (w : Walk) (top : Names) : Type 0 where
+pub record IsStart (w : NameWalk) (top : VisibleNames) : Type 0 where
   pub outer : w.names.outer ≡ []
   pub own : w.names.own ≡ []
   pub entities : w.entities.items ≡ []
@@ -158,13 +158,13 @@ pub record ResolvesItems (p : Program) (new : NamingState) (top : List ScopeEntr
   pub entities : new.scope.entities ≡ (after_functions (length p.decls) (first_scope p) p.functions).entities
   pub least : new.least ≡ least_of (least_of None (items_breaches [] (items_of p))) (functions_breaches (length p.decls) (first_scope p) p.functions)
 
-abbrev pub NumbersItems : (old new : Tree) → Walk → Names → Type 0
+abbrev pub NumbersItems : (old new : Tree) → NameWalk → VisibleNames → Type 0
 NumbersItems old new walk names =
     ResolvesItems (program_seen old) (state_of walk) (visible names) (map declared_seen new.decls.items) (map defined_seen new.functions.items)
 
 -- what a walk over a program comes to: its tree with entities, the breach of its names that stands first, and the
 -- form that does of those that are not built
-pub record IsWalked (p : Program) (new : Tree) (found : Found) : Type 0 where
+pub record IsWalked (p : Program) (new : Tree) (found : WalkFindings) : Type 0 where
   pub tree : program_seen new ≡ resolved p
   pub least : found.least ≡ least_of None (breaches_of p)
   pub unbuilt : found.unbuilt ≡ least_of None (unbuilt_forms p)

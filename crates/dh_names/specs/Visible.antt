@@ -4,10 +4,10 @@ use Rattle.dh_base.specs.declared.lists.NoMemory.{NoMemory}
 use Rattle.dh_tree.specs.declared.breaches.Breach.{Breach}
 use Rattle.dh_tree.specs.LeastBreach.{least_of}
 use Rattle.dh_tree.specs.Scopes.{ScopeEntry, binding, entity_of, bind}
-use Rattle.dh_names.specs.declared.scopes.Names.{Names}
+use Rattle.dh_names.specs.declared.scopes.VisibleNames.{VisibleNames}
 
 -- all names that are visible
-abbrev pub visible : Names → List ScopeEntry
+abbrev pub visible : VisibleNames → List ScopeEntry
 visible n = n.outer ++ n.own
 
 -- a name is made visible; for want of memory, which only a name needs that is not visible yet, nothing is
@@ -20,5 +20,5 @@ abbrev pub AddsName : (old new : List ScopeEntry) → (name : List ℕ) → (ent
 AddsName old new name entity result = new ≡ (if is_ok result then old ++ binding name entity ∷ [] else old)
 
 -- the least is kept of the breach that was kept and those that a rule finds here where these names are visible
-abbrev pub LeastBy : {A : Type 0} → (rule : List ScopeEntry → A → List Breach) → Names → (old new : Option Breach) → A → Type 0
+abbrev pub LeastBy : {A : Type 0} → (rule : List ScopeEntry → A → List Breach) → VisibleNames → (old new : Option Breach) → A → Type 0
 LeastBy rule names old new seen = new ≡ least_of old (rule (visible names) seen)

@@ -17,7 +17,7 @@ use Rattle.dh_tree.specs.Resolved.{declares, resolved_action, resolved_form, res
 use Rattle.dh_tree.specs.Seen.{action_seen, action_form_seen, sides_seen, part_seen, maybe_block_seen}
 use Rattle.dh_tree.specs.NameCounts.{declared_in, declared_in_form, declared_in_other, declared_in_actions}
 use Rattle.dh_names.specs.Visible.{visible}
-use Rattle.dh_names.specs.declared.walks.Walk.{Walk}
+use Rattle.dh_names.specs.declared.walks.NameWalk.{NameWalk}
 
 -- whether a command is a block
 abbrev pub is_blocks : ActionForm → Bool
@@ -30,7 +30,7 @@ pub record NamingState : Type 0 where
   pub scope : Scope
   pub least : Option Breach
 
-abbrev pub state_of : Walk → NamingState
+abbrev pub state_of : NameWalk → NamingState
 state_of w = record { outer = w.names.outer; scope = record { visible = visible w.names; entities = w.entities.items }; least = w.least }
 
 -- the state at another point, with these breaches found on the way
@@ -46,11 +46,11 @@ abbrev pub HasRoomToDeclare : NamingState → ℕ → Type 0
 HasRoomToDeclare s declared = length s.scope.entities + declared ≤ 2 ^ 32
 
 -- the walk finds the breaches that a rule finds here where the names at its point are visible, and stays there
-abbrev pub FindsBy : {A : Type 0} → (rule : List ScopeEntry → A → List Breach) → (old new : Walk) → A → Type 0
+abbrev pub FindsBy : {A : Type 0} → (rule : List ScopeEntry → A → List Breach) → (old new : NameWalk) → A → Type 0
 FindsBy rule old new seen = state_of new ≡ walked (state_of old) (rule (state_of old).scope.visible seen) (state_of old).scope
 
 -- a name that is declared at the walk's point takes the number of the next entity, where there is one
-abbrev pub NumbersName : Walk → (old new : Ref) → Type 0
+abbrev pub NumbersName : NameWalk → (old new : Ref) → Type 0
 NumbersName walk old new = HasRoomToDeclare (state_of walk) 1 → new ≡ declares (state_of walk).scope old
 
 -- the header of a loop with this iterator in place of its own
@@ -58,16 +58,16 @@ abbrev pub with_iterator : LoopHeader → Ref → LoopHeader
 with_iterator h iterator = record h { iterator = iterator }
 
 -- the same of the iterator of a loop
-abbrev pub NumbersHeader : Walk → (old new : LoopHeader) → Type 0
+abbrev pub NumbersHeader : NameWalk → (old new : LoopHeader) → Type 0
 NumbersHeader walk old new = HasRoomToDeclare (state_of walk) 1 → new ≡ with_iterator old (declares (state_of walk).scope old.iterator)
 
 -- the walk goes past a name that is declared as an entity of this sort, where that has a number
-abbrev pub DeclaresName : (old new : Walk) → (name : Ref) → Sort → Type 0
+abbrev pub DeclaresName : (old new : NameWalk) → (name : Ref) → Sort → Type 0
 DeclaresName old new name sort =
     HasRoomToDeclare (state_of old) 1 → state_of new ≡ walked (state_of old) (twice (state_of old).scope.visible name) (declare (state_of old).scope name sort)
 
 -- the same of the iterator of a loop with this header
-abbrev pub DeclaresIterator : (old new : Walk) → LoopHeader → Type 0
+abbrev pub DeclaresIterator : (old new : NameWalk) → LoopHeader → Type 0
 DeclaresIterator old new header = DeclaresName old new header.iterator Iterator
 
 -- a walk over a command, up to its end
@@ -103,25 +103,25 @@ pub record ResolvesGroups (old new : NamingState) (a b : Groups) : Type 0 where
 
 -- the code's walk over a command, up to its end, where all that it declares has numbers; over its form, over
 -- both sides of a store, over a block that may lack, over a command whose scope ends with it, over a command of a list, and over a part
-abbrev pub NumbersCommand : (old new : Walk) → (a b : Command) → Type 0
+abbrev pub NumbersCommand : (old new : NameWalk) → (a b : Command) → Type 0
 NumbersCommand old new a b = HasRoomToDeclare (state_of old) (declared_in (action_seen a)) → Resolves (state_of old) (state_of new) (action_seen a) (action_seen b)
 
-abbrev pub NumbersForm : (old new : Walk) → (a b : CommandForm) → Type 0
+abbrev pub NumbersForm : (old new : NameWalk) → (a b : CommandForm) → Type 0
 NumbersForm old new a b =
     HasRoomToDeclare (state_of old) (declared_in_form (action_form_seen a)) → ResolvesForm (state_of old) (state_of new) (action_form_seen a) (action_form_seen b)
 
-abbrev pub NumbersSides : (old new : Walk) → (a b : Sides) → Type 0
+abbrev pub NumbersSides : (old new : NameWalk) → (a b : Sides) → Type 0
 NumbersSides old new a b = ResolvesForm (state_of old) (state_of new) (sides_seen a) (sides_seen b)
 
-abbrev pub NumbersOptional : (old new : Walk) → (a b : Option (Box Command Global)) → Type 0
+abbrev pub NumbersOptional : (old new : NameWalk) → (a b : Option (Box Command Global)) → Type 0
 NumbersOptional old new a b =
     HasRoomToDeclare (state_of old) (declared_in_other (maybe_block_seen a)) → ResolvesOther (state_of old) (state_of new) (maybe_block_seen a) (maybe_block_seen b)
 
-abbrev pub NumbersInner : (old new : Walk) → (a b : Command) → Type 0
+abbrev pub NumbersInner : (old new : NameWalk) → (a b : Command) → Type 0
 NumbersInner old new a b = HasRoomToDeclare (state_of old) (declared_in (action_seen a)) → ResolvesInner (state_of old) (state_of new) (action_seen a) (action_seen b)
 
-abbrev pub NumbersListed : (old new : Walk) → (a b : Command) → Type 0
+abbrev pub NumbersListed : (old new : NameWalk) → (a b : Command) → Type 0
 NumbersListed old new a b = HasRoomToDeclare (state_of old) (declared_in (action_seen a)) → ResolvesNext (state_of old) (state_of new) (action_seen a) (action_seen b)
 
-abbrev pub NumbersPart : (old new : Walk) → (a b : Vec Command Global) → Type 0
+abbrev pub NumbersPart : (old new : NameWalk) → (a b : Vec Command Global) → Type 0
 NumbersPart old new a b = HasRoomToDeclare (state_of old) (declared_in_actions (part_seen a)) → ResolvesActions (state_of old) (state_of new) (part_seen a) (part_seen b)

@@ -7,12 +7,12 @@ ghost use Rattle.dh_names.specs.NotBuilt.{KeepsCommand, KeepsForm, KeepsOptional
 ghost use Rattle.dh_names.specs.Walks.{is_blocks, NumbersCommand, NumbersForm, NumbersInner, NumbersOptional, NumbersListed, NumbersPart};
 
 use crate::forms::{keep_second, keep_unbuilt};
-use crate::walks::Walk;
+use crate::walks::NameWalk;
 use dh_base::{NoMemory, Place};
 use dh_tree::{Breach, Command, CommandForm, Sort, has_dashes};
 use std::alloc::Global;
 
-impl Walk {
+impl NameWalk {
     /// Gives the names of a command their numbers. Names that a block declares stay visible. Keeps the
     /// first form that is not built, and answers whether the command holds a `---`, a loop or a call.
     #[cycle(commands)]

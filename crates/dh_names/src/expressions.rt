@@ -7,12 +7,12 @@ ghost use Rattle.dh_tree.specs.Resolved.{resolved_term_form};
 ghost use Rattle.dh_names.specs.Visible.{visible, LeastBy};
 ghost use Rattle.dh_names.specs.InTrees.{ResolvesTerm, ResolvesTerms};
 
-use crate::scopes::{Names, resolve_use};
+use crate::scopes::{VisibleNames, resolve_use};
 use dh_tree::{Breach, Expr, ExprForm};
 
 /// Gives the names of an expression their numbers, and keeps the breaches.
 #[cycle(expressions)]
-pub fn resolve_term(names: &Names, least: &mut Option<Breach>, term: &mut Expr)
+pub fn resolve_term(names: &VisibleNames, least: &mut Option<Breach>, term: &mut Expr)
     ensures tree { ResolvesTerm (visible names.now) term.old term.new }
     ensures least { LeastBy term_breaches names.now least.old least.new (term_seen term.old) }
 {
@@ -22,7 +22,7 @@ pub fn resolve_term(names: &Names, least: &mut Option<Breach>, term: &mut Expr)
 // The names within an expression. The form stays where it is.
 #[cycle(expressions)]
 #[tactic(auto, using(dh_tree::proofs::SeenTerms::terms_are, dh_tree::proofs::Leasts::least_append))]
-fn resolve_form(names: &Names, least: &mut Option<Breach>, form: &mut ExprForm)
+fn resolve_form(names: &VisibleNames, least: &mut Option<Breach>, form: &mut ExprForm)
     ensures tree { form_seen form.new ≡ resolved_term_form (visible names.now)
         (form_seen form.old) }
     ensures least { LeastBy term_form_breaches names.now least.old least.new (form_seen form.old) }
@@ -49,7 +49,7 @@ fn resolve_form(names: &Names, least: &mut Option<Breach>, form: &mut ExprForm)
 
 /// Gives the names of expressions in order their numbers, and keeps the breaches.
 #[cycle(expressions)]
-pub fn resolve_terms(names: &Names, least: &mut Option<Breach>, terms: &mut Vec<Expr>)
+pub fn resolve_terms(names: &VisibleNames, least: &mut Option<Breach>, terms: &mut Vec<Expr>)
     ensures tree { ResolvesTerms (visible names.now) terms.old terms.new }
     ensures least { LeastBy list_breaches names.now least.old least.new
         (expressions_seen terms.old) }

@@ -6,7 +6,7 @@ ghost use Rattle.dh_names.specs.Walks.{HasRoomToDeclare, state_of};
 ghost use Rattle.dh_names.specs.Programs.{IsOutside, NumbersParameters, NumbersFunction, NumbersFunctions, declared_by_all};
 ghost use Rattle.dh_tree.specs.NameCounts.{declared_by};
 
-use crate::walks::Walk;
+use crate::walks::NameWalk;
 use dh_base::NoMemory;
 use dh_tree::{Function, Parameter, Sort};
 use std::alloc::Global;
@@ -21,7 +21,7 @@ fn sort_of(parameter: &Parameter) -> Sort
     }
 }
 
-impl Walk {
+impl NameWalk {
     // The parameters in order.
     fn parameters(&mut self, alloc: Global, parameters: &mut Vec<Parameter>) -> Result<(), NoMemory>
         requires { HasRoomToDeclare (state_of self.old) (length parameters.old.items) }

@@ -10,8 +10,8 @@ ghost use Rattle.dh_names.specs.Programs.{ResolvesProgram, AnswersBuilt, IsStart
 
 use crate::bindings::Bindings;
 use crate::forms::keep_functions;
-use crate::scopes::{Names, bind_name, list_entity};
-use crate::walks::Walk;
+use crate::scopes::{VisibleNames, bind_name, list_entity};
+use crate::walks::NameWalk;
 use dh_base::{NoMemory, PassFault};
 use dh_tree::{Breach, Decl, Entity, Function, Named, Sort, Tree, is_before};
 use std::alloc::Global;
@@ -65,7 +65,7 @@ fn function_is_next(decls: &[Decl], functions: &[Function], memory: usize, funct
 // functions that are visible already, and counts it too.
 fn bind_next(
     alloc: Global,
-    names: &mut Names,
+    names: &mut VisibleNames,
     least: &mut Option<Breach>,
     decls: &[Decl],
     functions: &[Function],
@@ -92,7 +92,7 @@ fn bind_next(
 // Makes memories from outside and functions visible, in text order.
 fn bind_items(
     alloc: Global,
-    names: &mut Names,
+    names: &mut VisibleNames,
     least: &mut Option<Breach>,
     decls: &[Decl],
     functions: &[Function],
@@ -110,11 +110,11 @@ fn bind_items(
     Ok(())
 }
 
-fn no_names(alloc: Global) -> Names
+fn no_names(alloc: Global) -> VisibleNames
     ensures outer { result.outer ≡ [] }
     ensures own { result.own ≡ [] }
 {
-    Names {
+    VisibleNames {
         outer: Bindings::new(alloc),
         own: Bindings::new(alloc),
     }
@@ -122,7 +122,7 @@ fn no_names(alloc: Global) -> Names
 
 /// What a walk over a program finds.
 #[derive(Drop)]
-struct Found {
+struct WalkFindings {
     /// The breach of the rules on names that stands first.
     least: Option<Breach>,
     /// The form that stands first of those that are not built.
@@ -133,8 +133,8 @@ struct Found {
 // makes their names visible in `names`, of which functions see those of earlier functions alone.
 fn walk_items(
     alloc: Global,
-    walk: &mut Walk,
-    names: &mut Names,
+    walk: &mut NameWalk,
+    names: &mut VisibleNames,
     tree: &mut Tree,
 ) -> Result<(), NoMemory>
     requires few { HasFewNames (program_seen tree.old) }
@@ -152,13 +152,13 @@ fn walk_items(
 
 // The walk over a program, whose tree takes its numbers and entities where it stands: functions first,
 // then its body.
-fn walk_program(alloc: Global, tree: &mut Tree) -> Result<Found, NoMemory>
+fn walk_program(alloc: Global, tree: &mut Tree) -> Result<WalkFindings, NoMemory>
     requires few { HasFewNames (program_seen tree.old) }
     ensures { MatchResult result (λ found. IsWalked (program_seen tree.old) tree.new found)
         (λ _. 0 < names_declared (program_seen tree.old)) }
 {
     let mut names = no_names(alloc);
-    let mut walk = Walk {
+    let mut walk = NameWalk {
         names: no_names(alloc),
         entities: Vec::new(alloc),
         least: None,
@@ -169,7 +169,7 @@ fn walk_program(alloc: Global, tree: &mut Tree) -> Result<Found, NoMemory>
     walk.names = names;
     walk.command(alloc, &mut unbuilt, &mut tree.body)?;
     tree.entities = walk.entities;
-    Ok(Found {
+    Ok(WalkFindings {
         least: walk.least,
         unbuilt,
     })

@@ -13,7 +13,7 @@ use std::alloc::Global;
 
 /// The names that are visible: those that a function sees of the program, none in the program's body,
 /// and those of the function or the program's body.
-pub struct Names {
+pub struct VisibleNames {
     /// Those seen of the program.
     pub outer: Bindings,
     /// Those of the function or the program's body.
@@ -22,16 +22,16 @@ pub struct Names {
 
 /// A call, and not the drop of each map where names are dropped: that is long, and would stand in the
 /// proof of each such function.
-impl Drop for Names {
+impl Drop for VisibleNames {
     fn drop(self) {
-        let Names {
+        let VisibleNames {
             outer: _outer,
             own: _own,
         } = self;
     }
 }
 
-impl Names {
+impl VisibleNames {
     // The number of what the name stands for among those seen of the program. A program without
     // functions has none of them, and nothing is looked for.
     fn find_outer(&self, name: &Name) -> Option<u32>
@@ -55,7 +55,7 @@ impl Names {
 }
 
 /// Gives a name that is used its number, and keeps the breach where it is not visible.
-pub fn resolve_use(names: &Names, least: &mut Option<Breach>, name: &mut Ref)
+pub fn resolve_use(names: &VisibleNames, least: &mut Option<Breach>, name: &mut Ref)
     ensures tree { name.new ≡ used (visible names.now) name.old }
     ensures least { LeastBy unknown names.now least.old least.new name.old }
 {
@@ -75,7 +75,7 @@ pub fn resolve_use(names: &Names, least: &mut Option<Breach>, name: &mut Ref)
 /// visible already. After want of memory names and breach are as before.
 pub fn bind_name(
     alloc: Global,
-    names: &mut Names,
+    names: &mut VisibleNames,
     least: &mut Option<Breach>,
     name: &Ref,
     entity: u32,

@@ -8,10 +8,10 @@ ghost use Rattle.dh_names.specs.Visible.{visible};
 ghost use Rattle.dh_names.specs.InTrees.{ResolvesOffsets};
 ghost use Rattle.dh_names.specs.Walks.{FindsBy};
 
-use crate::walks::Walk;
+use crate::walks::NameWalk;
 use dh_tree::{Expr, ViewForm};
 
-impl Walk {
+impl NameWalk {
     /// Gives the names of a view's offsets their numbers.
     pub fn plan(&mut self, form: &mut ViewForm)
         ensures tree { view_plan form.new ≡ resolved_plan (visible self.old.names)

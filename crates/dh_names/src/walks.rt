@@ -9,23 +9,23 @@ ghost use Rattle.dh_names.specs.InTrees.{ResolvesTerm, ResolvesTerms, ResolvesVa
 ghost use Rattle.dh_names.specs.Walks.{state_of, cut_to_own_names, FindsBy, NumbersName, NumbersHeader, NumbersSides, DeclaresName, DeclaresIterator};
 
 use crate::expressions::{resolve_term, resolve_terms};
-use crate::scopes::{Names, bind_name, list_entity, resolve_use};
+use crate::scopes::{VisibleNames, bind_name, list_entity, resolve_use};
 use dh_base::NoMemory;
 use dh_tree::{Breach, Entity, Expr, LoopHeader, Ref, Sides, Sort};
 use std::alloc::Global;
 
 /// A walk through the text of a program, up to some point.
 #[derive(Drop)]
-pub struct Walk {
+pub struct NameWalk {
     /// The names that are visible there.
-    pub names: Names,
+    pub names: VisibleNames,
     /// The entities that are numbered so far.
     pub entities: Vec<Entity>,
     /// The breach that stands first, of those found so far.
     pub least: Option<Breach>,
 }
 
-impl Walk {
+impl NameWalk {
     /// Gives a name that is used its number.
     pub fn use_name(&mut self, name: &mut Ref)
         ensures tree { name.new ≡ used (visible self.old.names) name.old }

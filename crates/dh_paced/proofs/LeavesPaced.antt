@@ -12,7 +12,7 @@ use Rattle.dh_meaning.specs.CoreOf.{core_term, core_terms, memory_of, target_to,
 use Rattle.dh_meaning.specs.Levels.{Levels}
 use Rattle.dh_code.specs.Extended.{extension_of}
 use Rattle.dh_tree.specs.Kinds.{same_kind}
-use Rattle.dh_code.specs.declared.places.Held.{Held}
+use Rattle.dh_code.specs.declared.places.VariableSlots.{VariableSlots}
 use Rattle.dh_plan.specs.declared.operations.OperationForm.TheVariants.{Convert}
 use Rattle.dh_plan.specs.PlanPhases.{term_mentions, core_terms_mention, target_mentions}
 use Rattle.dh_expressions.specs.declared.accesses.Accesses.{Accesses}
@@ -90,7 +90,7 @@ operand_timed t (kind.Unsigned n) value k old new v m = held_timed t (kind.Unsig
 operand_timed t (kind.Signed n) value k old new v m = held_timed t (kind.Signed n) value k old new v m
 
 -- what a reducer puts together: of what its variable shows, and a value
-pub folded_timed : (lane : Lane) (current : List (Option ℕ)) (held : Held) (op : Op) (t : Term) (value : ℕ) (j k : ℕ) (old new : Draft) (v : ℕ) → FoldedWith lane current held op t value old new v
+pub folded_timed : (lane : Lane) (current : List (Option ℕ)) (held : VariableSlots) (op : Op) (t : Term) (value : ℕ) (j k : ℕ) (old new : Draft) (v : ℕ) → FoldedWith lane current held op t value old new v
     → TimesValue old new v (λ c. CurrentAt c (slice_get current (register_at held lane)) j × HasClock c k value) (λ c. max j k)
 folded_timed lane current held op t value j k old new v f =
     value_then old f.first new f.before v Begun (λ c. j) (λ c. max j k) (λ c w. left_few j k)

@@ -9,8 +9,8 @@ use Rattle.dh_meets.specs.Sharing.{same_truth, same_maybe_kind, number_of_op, al
 use Rattle.dh_tree.specs.Kinds.{same_kind}
 use Rattle.dh_meets.specs.SourceEvents.{Element, with_indices, in_row}
 use Rattle.dh_events.specs.declared.structures.Structure.{Structure}
-use Rattle.dh_events.specs.declared.structures.Sort.{Sort}
-use Rattle.dh_events.specs.declared.structures.Sort.TheVariants as sort
+use Rattle.dh_events.specs.declared.structures.MaybeKind.{MaybeKind}
+use Rattle.dh_events.specs.declared.structures.MaybeKind.TheVariants as sort
 use Rattle.dh_events.specs.declared.structures.Form.TheVariants as form
 use Rattle.dh_events.specs.Structures.{kind_sort, sort_found, Describes, DescribesForm, DescribesFrom, DescribesElement, StructuresAreDistinct, IsNameless, FormNameless, AnyNameless, newest_in, form_newest, newest_behind, entity_newest, element_newest}
 use Rattle.dh_events.specs.Elements.{ElementNameless}
@@ -27,7 +27,7 @@ module _ (known : List Structure) (distinct : StructuresAreDistinct known) where
     pub alike_number : (m n : ℕ) (t u : Term) → Describes known m t → Describes known n u → alike t u ≡ true → m ≡ n
     alike_number m n (term p j f) (term q k g) d e h = forms_number m n (sort_found j) (sort_found k) f g (alike_kinds j k (first_true (same_maybe_kind j k) _ h)) d e (second_true (same_maybe_kind j k) _ h)
 
-    forms_number : (m n : ℕ) (s t : Sort) (f g : TermForm) → s ≡ t → DescribesForm known m s f → DescribesForm known n t g → alike_forms f g ≡ true → m ≡ n
+    forms_number : (m n : ℕ) (s t : MaybeKind) (f g : TermForm) → s ≡ t → DescribesForm known m s f → DescribesForm known n t g → alike_forms f g ≡ true → m ≡ n
     forms_number m n s t (number a x) (number b y) q d e h =
         one_number known distinct m n s t _ _ q (ap (λ z. form.Number z x) (truths_same a b (first_true (same_truth a b) _ h)) ∙ ap (λ z. form.Number b z) (eqb-true x y (second_true (same_truth a b) _ h))) d e
     forms_number m n s t (truth_value a) (truth_value b) q d e h = one_number known distinct m n s t _ _ q (ap (λ z. form.Truth z) (truths_same a b h)) d e

@@ -11,8 +11,8 @@ use Rattle.dh_meets.specs.Sharing.{same_truth, same_maybe_kind, number_of_op, al
 use Rattle.dh_tree.specs.Kinds.{same_kind}
 use Rattle.dh_meets.specs.SourceEvents.{Element, with_indices, in_row}
 use Rattle.dh_events.specs.declared.structures.Structure.{Structure}
-use Rattle.dh_events.specs.declared.structures.Sort.{Sort}
-use Rattle.dh_events.specs.declared.structures.Sort.TheVariants as sort
+use Rattle.dh_events.specs.declared.structures.MaybeKind.{MaybeKind}
+use Rattle.dh_events.specs.declared.structures.MaybeKind.TheVariants as sort
 use Rattle.dh_events.specs.declared.structures.Form.{Form}
 use Rattle.dh_events.specs.declared.structures.Form.TheVariants as form
 use Rattle.dh_events.specs.Structures.{kind_sort, sort_found, StructureStands, Describes, DescribesForm, DescribesFrom, DescribesElement}
@@ -95,10 +95,10 @@ operation_left a b l m r s e = cc
 operation_right : (a b l m r s : ℕ) → form.Operation a l r ≡ form.Operation b m s → r ≡ s
 operation_right a b l m r s e = cc
 
-cast_sort : (a b : Sort) (m n : ℕ) → form.Cast a m ≡ form.Cast b n → a ≡ b
+cast_sort : (a b : MaybeKind) (m n : ℕ) → form.Cast a m ≡ form.Cast b n → a ≡ b
 cast_sort a b m n e = cc
 
-cast_inner : (a b : Sort) (m n : ℕ) → form.Cast a m ≡ form.Cast b n → m ≡ n
+cast_inner : (a b : MaybeKind) (m n : ℕ) → form.Cast a m ≡ form.Cast b n → m ≡ n
 cast_inner a b m n e = cc
 
 row_bank : (a b m n : ℕ) → form.Row a m ≡ form.Row b n → a ≡ b
@@ -129,7 +129,7 @@ tag_of (applied op left right) = 4
 tag_of (converted inner to) = 5
 
 module _ (known : List Structure) where
-  stands_so : (n : ℕ) (s : Sort) (f : TermForm) → DescribesForm known n s f → (x : Form) × (StructureStands known n s x × (tag x ≡ tag_of f))
+  stands_so : (n : ℕ) (s : MaybeKind) (f : TermForm) → DescribesForm known n s f → (x : Form) × (StructureStands known n s x × (tag x ≡ tag_of f))
   stands_so n s (number negative value) d = (_, (d, refl))
   stands_so n s (truth_value value) d = (_, (d, refl))
   stands_so n s (named r) (e, (h, d)) = (_, (d, refl))
@@ -138,10 +138,10 @@ module _ (known : List Structure) where
   stands_so n s (applied op left right) (l, (r, (i, (j, d)))) = (_, (d, refl))
   stands_so n s (converted inner to) (m, (i, d)) = (_, (d, refl))
 
-  sorts_same : (n : ℕ) (s t : Sort) (f g : TermForm) → DescribesForm known n s f → DescribesForm known n t g → s ≡ t
+  sorts_same : (n : ℕ) (s t : MaybeKind) (f g : TermForm) → DescribesForm known n s f → DescribesForm known n t g → s ≡ t
   sorts_same n s t f g d e = let x = stands_so n s f d in let y = stands_so n t g e in one_sort known n s t x.0 y.0 x.1.0 y.1.0
 
-  tags_same : (n : ℕ) (s t : Sort) (f g : TermForm) → DescribesForm known n s f → DescribesForm known n t g → tag_of f ≡ tag_of g
+  tags_same : (n : ℕ) (s t : MaybeKind) (f g : TermForm) → DescribesForm known n s f → DescribesForm known n t g → tag_of f ≡ tag_of g
   tags_same n s t f g d e =
       let x = stands_so n s f d in
       let y = stands_so n t g e in
@@ -225,7 +225,7 @@ module _ (known : List Structure) where
     pub numbers_alike : (n : ℕ) (t u : Term) → Describes known n t → Describes known n u → alike t u ≡ true
     numbers_alike n (term p j f) (term q k g) d e = both_true (same_maybe_kind j k) (alike_forms f g) (kinds_alike j k (sorts_same n (sort_found j) (sort_found k) f g d e)) (forms_alike n (sort_found j) (sort_found k) f g d e)
 
-    forms_alike : (n : ℕ) (s t : Sort) (f g : TermForm) → DescribesForm known n s f → DescribesForm known n t g → alike_forms f g ≡ true
+    forms_alike : (n : ℕ) (s t : MaybeKind) (f g : TermForm) → DescribesForm known n s f → DescribesForm known n t g → alike_forms f g ≡ true
     forms_alike n s t (number a x) (number b y) d e =
         let k = one_form known n s t (form.Number a x) (form.Number b y) d e in
         both_true (same_truth a b) (x == y) (same_truths a b (number_sign a b x y k)) (eq-eqb x y (number_value a b x y k))

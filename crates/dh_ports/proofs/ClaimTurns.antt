@@ -24,7 +24,7 @@ use Rattle.dh_meaning.specs.Paths.{same_path}
 use Rattle.dh_meets.specs.Charges.{key_of}
 use Rattle.dh_meets.specs.SourceEvents.{SourceAccess}
 use Rattle.dh_events.specs.declared.dependence.Scope.{Scope}
-use Rattle.dh_ports.specs.declared.moves.Layout.{Layout}
+use Rattle.dh_ports.specs.declared.moves.ProgramLayout.{ProgramLayout}
 use Rattle.dh_ports.specs.declared.moves.Move.TheVariants as move
 use Rattle.dh_ports.specs.Banks.{bank_at_path, each_below}
 use Rattle.dh_events.specs.Accesses.{entity_in, loops_listed}
@@ -285,7 +285,7 @@ some_loop loops b e f none = apart (sym (ap (λ (l : List Counter). length l == 
     apart : true ≡ false → ⊥
     apart e = cc
 
-pub scopes_at : (p : Program) (layout : Layout) → IsLayout p layout → (round : Option ℕ) → (loops_listed layout.rounds.items round ≡ [] → ⊥) → AreScopes (all_bindings_of p) layout.scopes.items
+pub scopes_at : (p : Program) (layout : ProgramLayout) → IsLayout p layout → (round : Option ℕ) → (loops_listed layout.rounds.items round ≡ [] → ⊥) → AreScopes (all_bindings_of p) layout.scopes.items
 scopes_at p layout l None h = absurd (h refl)
 scopes_at p layout l (Some id) h = l.scopes id h
 

@@ -4,8 +4,8 @@ use Rattle.std.specs.List.{AllByRecursion}
 use Rattle.std.proofs.lemmas.Bool.{cases_Bool, eqb-true}
 use Rattle.std.proofs.Math.Nat.{mod-lt}
 use Rattle.std.proofs.lemmas.Nat.{mul-le}
-use Rattle.dh_ports.specs.declared.copies.Level.{Level}
-use Rattle.dh_ports.specs.declared.copies.Lane.{Lane}
+use Rattle.dh_ports.specs.declared.copies.CopyLevel.{CopyLevel}
+use Rattle.dh_ports.specs.declared.copies.BankDimension.{BankDimension}
 use Rattle.dh_ports.specs.Copies.{IsSpreadLevel, key_of_levels, greatest_key, copy_of_level, bank_of_lanes, all_lane_banks, HaveBanks}
 use Rattle.dh_events.proofs.Turns.{at_place}
 
@@ -19,7 +19,7 @@ less_one : (m n : ℕ) → m < n → m ≤ n - 1
 less_one m n e = omega (arith, e)
 
 -- no key is greater than the greatest
-key_most : (ls : List Level) (n : ℕ) → AllByRecursion IsSpreadLevel ls → key_of_levels ls n ≤ greatest_key ls
+key_most : (ls : List CopyLevel) (n : ℕ) → AllByRecursion IsSpreadLevel ls → key_of_levels ls n ≤ greatest_key ls
 key_most [] n h = same
   where
     same : 0 ≤ 0
@@ -34,7 +34,7 @@ key_most (l ∷ ls) n h =
     same : (n : ℕ) → n ≤ n
     same n = omega arith
 
-module _ (ls : List Level) (i number : ℕ) (d : Level) (inside : i < length ls) where
+module _ (ls : List CopyLevel) (i number : ℕ) (d : CopyLevel) (inside : i < length ls) where
   key_here : key_of_levels (drop i ls) number ≡ ((number / (get_or ls i d).stride) % (get_or ls i d).factor) * (get_or ls i d).share + key_of_levels (drop (i + 1) ls) number
   key_here = ap (λ l. key_of_levels l number) (at_place ls i d inside)
 
@@ -55,7 +55,7 @@ module _ (ls : List Level) (i number : ℕ) (d : Level) (inside : i < length ls)
       within a b c g m e f h = omega (arith, e, f, h)
 
 -- no bank is beyond the banks of all lanes
-pub bank_most : (levels : List Level) (ls : List Lane) (n : ℕ) → HaveBanks ls → bank_of_lanes levels ls n ≤ all_lane_banks ls
+pub bank_most : (levels : List CopyLevel) (ls : List BankDimension) (n : ℕ) → HaveBanks ls → bank_of_lanes levels ls n ≤ all_lane_banks ls
 bank_most levels [] n h = same
   where
     same : 0 ≤ 0
@@ -71,12 +71,12 @@ bank_most levels (l ∷ ls) n h =
     same : (n : ℕ) → n ≤ n
     same n = omega arith
 
-pub banks_rest : (ls : List Lane) (n : ℕ) → HaveBanks ls → HaveBanks (drop n ls)
+pub banks_rest : (ls : List BankDimension) (n : ℕ) → HaveBanks ls → HaveBanks (drop n ls)
 banks_rest ls zero h = h
 banks_rest [] (suc n) h = tt
 banks_rest (l ∷ ls) (suc n) h = banks_rest ls n h.1
 
-pub lane_banks : (ls : List Lane) (i : ℕ) (d : Lane) → i < length ls → HaveBanks ls → 1 ≤ (get_or ls i d).banks
+pub lane_banks : (ls : List BankDimension) (i : ℕ) (d : BankDimension) → i < length ls → HaveBanks ls → 1 ≤ (get_or ls i d).banks
 lane_banks [] i d e h = absurd (none i e)
   where
     none : (i : ℕ) → i < 0 → ⊥
@@ -94,7 +94,7 @@ not_none n = elim (cases_Bool (suc n == 0)) [ inl e ↦ absurd (apart n (eqb-tru
     apart n e = omega (arith, e)
 
 -- the copy at a level, where it is one
-pub copy_at_level : (ls : List Level) (level number : ℕ) (d : Level) → level < length ls → copy_of_level ls level number ≡ (number / (get_or ls level d).stride) % (get_or ls level d).factor
+pub copy_at_level : (ls : List CopyLevel) (level number : ℕ) (d : CopyLevel) → level < length ls → copy_of_level ls level number ≡ (number / (get_or ls level d).stride) % (get_or ls level d).factor
 copy_at_level [] level number d e = absurd (none level e)
   where
     none : (i : ℕ) → i < 0 → ⊥
@@ -108,7 +108,7 @@ copy_at_level (l ∷ ls) (suc level) number d e = ap (λ b. if b then (number / 
     back : (i : ℕ) → suc i - 1 ≡ i
     back i = omega arith
 
-pub no_copy : (ls : List Level) (level number : ℕ) → length ls ≤ level → copy_of_level ls level number ≡ 0
+pub no_copy : (ls : List CopyLevel) (level number : ℕ) → length ls ≤ level → copy_of_level ls level number ≡ 0
 no_copy [] level number e = refl
 no_copy (l ∷ ls) zero number e = absurd (none (length ls) e)
   where
@@ -122,7 +122,7 @@ no_copy (l ∷ ls) (suc level) number e = ap (λ b. if b then (number / l.stride
     back : (i : ℕ) → suc i - 1 ≡ i
     back i = omega arith
 
-module _ (levels : List Level) (ls : List Lane) (i number : ℕ) (d : Lane) (inside : i < length ls) where
+module _ (levels : List CopyLevel) (ls : List BankDimension) (i number : ℕ) (d : BankDimension) (inside : i < length ls) where
   bank_here : bank_of_lanes levels (drop i ls) number
       ≡ (unsigned_abs (pos ((get_or ls i d).low + copy_of_level levels (get_or ls i d).level number) +ℤ (get_or ls i d).offset) % (get_or ls i d).banks) * (get_or ls i d).times + bank_of_lanes levels (drop (i + 1) ls) number
   bank_here = ap (λ l. bank_of_lanes levels l number) (at_place ls i d inside)

@@ -15,7 +15,7 @@ use Rattle.dh_meets.specs.Ports.{KeepsPorts, PortsSpent, ReadsAfterWrite, IsPort
 use Rattle.dh_events.specs.declared.events.Event.{Event}
 use Rattle.dh_events.specs.declared.events.Site.{Site}
 use Rattle.dh_ports.specs.declared.levels.Step.{Step}
-use Rattle.dh_ports.specs.declared.moves.Layout.{Layout}
+use Rattle.dh_ports.specs.declared.moves.ProgramLayout.{ProgramLayout}
 use Rattle.dh_ports.specs.declared.moves.Move.{Move}
 use Rattle.dh_events.specs.Accesses.{loops_listed}
 use Rattle.dh_ports.specs.Claims.{moves_from}
@@ -135,7 +135,7 @@ found_first p events flags moves moves_are tells_spent tells_late place place_is
     (λ b c. late_reads (all_seen events) _ kept.found.steps _ b (subst (λ (l : List Breach). Contains l b) kept.found.told c)) place spent new (sym (kept.kept ∙ ap (λ o. least_of o kept.late) old_is))
 
 -- the loops that the layout knows
-layout_loops : (p : Program) (layout : Layout) → IsLayout p layout → ◌≡◌ {A = Option ℕ → List Counter} (loops_listed layout.rounds.items) (loops_known p)
+layout_loops : (p : Program) (layout : ProgramLayout) → IsLayout p layout → ◌≡◌ {A = Option ℕ → List Counter} (loops_listed layout.rounds.items) (loops_known p)
 layout_loops p layout l = fun_ext each
   where
     each : (o : Option ℕ) → loops_listed layout.rounds.items o ≡ loops_known p o
@@ -174,7 +174,7 @@ seen_at [] i = refl
 seen_at (e ∷ es) zero = refl
 seen_at (e ∷ es) (suc i) = seen_at es i
 
-pub few_copies : (p : Program) (events : List Event) (layout : Layout) → HasFewCopies p → TellsLoops p → all_seen events ≡ happenings_of p → IsLayout p layout → HaveFewCopies layout.rounds.items events
+pub few_copies : (p : Program) (events : List Event) (layout : ProgramLayout) → HasFewCopies p → TellsLoops p → all_seen events ≡ happenings_of p → IsLayout p layout → HaveFewCopies layout.rounds.items events
 few_copies p events layout few loops seen l i access writes phase round element newest e =
     let n = number_at (all_seen events) i _ writes _ (seen_at events i ∙ ap (option_map event_seen) e) in
     let w = whole_is p (all_seen events) loops seen in
@@ -208,7 +208,7 @@ are_events p notes events events_are seen keys keys_are distinct noted = record 
 }
 
 -- the first breach, as the code finds it
-pub first_done : (p : Program) (events : List Event) (layout : Layout) → IsLayout p layout → (flags : List Bool) → TellsSpent p (spent_place (table_of p) events flags (moves_from p (loops_known p) 0 (all_seen events)))
+pub first_done : (p : Program) (events : List Event) (layout : ProgramLayout) → IsLayout p layout → (flags : List Bool) → TellsSpent p (spent_place (table_of p) events flags (moves_from p (loops_known p) 0 (all_seen events)))
     → ((late : List Breach) → FindsLate events (moves_from p (loops_known p) 0 (all_seen events)) late → TellsLate p late)
     → (place : Option Place) → place ≡ spent_place (table_of p) events flags (moves_known p layout events) → (old new : Option Breach) → old ≡ ports_spent_breach place → KeepsLate events (moves_known p layout events) old new → TellsFirst p new
 first_done p events layout l flags tells_spent tells_late place place_is old new old_is kept =

@@ -21,7 +21,7 @@ use Rattle.dh_meaning.specs.Ways.{Way, all_bindings_of}
 use Rattle.dh_meets.specs.Charges.{bank_named, bank_reached, charge_through, depends, loop_factors, groups_of, key_of, keys_in_group, paths_of, sum_over}
 use Rattle.dh_meets.specs.SourceEvents.{SourceAccess}
 use Rattle.dh_ports.specs.declared.carrying.Carrier.{Carrier}
-use Rattle.dh_ports.specs.declared.copies.Reach.{Reach}
+use Rattle.dh_ports.specs.declared.copies.PathReach.{PathReach}
 use Rattle.dh_ports.specs.Banks.{each_below, path_of_number}
 use Rattle.dh_shape.specs.Classified.{loops_in}
 use Rattle.dh_ports.specs.Carriers.{carried_to, group_sum, sum_below, AreGroupSums, Carries}
@@ -87,7 +87,7 @@ pub none_sums : (p : Program) (w : Way) (a : SourceAccess) (n many : ℕ) (sums 
 none_sums p w a n many sums none e so =
     each_told (charge_through p w a) many sums (ap length so ∙ (zeros_long n ∙ e)) (λ bank inside. ap (λ l. slice_index l bank) so ∙ (zero_at n bank ∙ sym (none_charged p w a bank none)))
 
-module _ (tree : Tree) (scopes : List (Option Scope)) (loops : List Counter) (dims : List Dim) (access : Expr) (writes : Bool) (reach : Reach) (so : IsAccessReach scopes tree loops dims access writes reach) (are : AreScopes (all_bindings_of (program_seen tree)) scopes)
+module _ (tree : Tree) (scopes : List (Option Scope)) (loops : List Counter) (dims : List Dim) (access : Expr) (writes : Bool) (reach : PathReach) (so : IsAccessReach scopes tree loops dims access writes reach) (are : AreScopes (all_bindings_of (program_seen tree)) scopes)
     (one : 1 ≤ reach.paths.count) (w : Way) (named : dims ≡ w.is.shape.dims) where
   some : 1 ≤ copies_in (loop_factors loops)
   some = subst (λ (n : ℕ). 1 ≤ n) so.paths.count one

@@ -5,7 +5,7 @@ use Rattle.std.proofs.lemmas.List.{length-set}
 use Rattle.dh_viewing.specs.Carried.{largest}
 use Rattle.dh_events.proofs.Turns.{index_set}
 use Rattle.dh_ports.specs.declared.carrying.Carrier.{Carrier}
-use Rattle.dh_ports.specs.declared.copies.Reach.{Reach}
+use Rattle.dh_ports.specs.declared.copies.PathReach.{PathReach}
 use Rattle.dh_ports.specs.Carriers.{carried_to, group_sum, AddsCarried, AreGroupSums}
 use Rattle.dh_ports.specs.Copies.{key_count_from, AreKeyCounts}
 use Rattle.dh_ports.proofs.CarriedBanks.{largest_below, largest_same}
@@ -159,7 +159,7 @@ block_within group groups stride e = subst (λ (n : ℕ). group * stride + strid
         more : (a b n : ℕ) → n ≡ a + b → a ≤ n
         more a b n e = omega (arith, e)
 
-module _ (reach : Reach) (c : Carrier) (stride : ℕ) (within : (bank : ℕ) → bank < length c.sources.items → slice_index c.sources.items bank < c.banks) where
+module _ (reach : PathReach) (c : Carrier) (stride : ℕ) (within : (bank : ℕ) → bank < length c.sources.items → slice_index c.sources.items bank < c.banks) where
   pub sums_none : (n : ℕ) (sums : List ℕ) → n ≡ length c.sources.items → sums ≡ replicate n 0 → AreGroupSums reach c stride 0 sums
   sums_none n sums many e = record { long = ap length e ∙ (zeros_long n ∙ many); each = λ bank inside. ap (λ l. slice_index l bank) e ∙ zero_at n bank }
 

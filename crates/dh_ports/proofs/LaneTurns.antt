@@ -14,8 +14,8 @@ use Rattle.dh_tree.specs.Seen.{form_seen, term_seen, terms}
 use Rattle.dh_tree.specs.Shapes.{IsDim}
 use Rattle.dh_meets.specs.Charges.{loop_factors, index_in, indices_in}
 use Rattle.dh_ports.specs.declared.banks.Start.{Start}
-use Rattle.dh_ports.specs.declared.copies.Level.{Level}
-use Rattle.dh_ports.specs.declared.copies.Lane.{Lane}
+use Rattle.dh_ports.specs.declared.copies.CopyLevel.{CopyLevel}
+use Rattle.dh_ports.specs.declared.copies.BankDimension.{BankDimension}
 use Rattle.dh_ports.specs.Banks.{path_of_number, IsLevel, IsIndexStart}
 use Rattle.dh_shape.specs.Classified.{loops_in}
 use Rattle.dh_ports.specs.Copies.{copy_of_level, bank_of_lanes, all_lane_banks, HaveBanks, AreLevels, AreIndexLanes}
@@ -34,35 +34,35 @@ before i n e f = omega (arith, e, f)
 abbrev pub indices_at : Tree → List Counter → (number : ℕ) → List Expr → List ℕ
 indices_at tree loops number es = indices_in (loops_in tree) loops (path_of_number (loop_factors loops) number) (terms (map term_seen es))
 
-abbrev pub as_lane : (banks times low : ℕ) → (offset : ℤ) → (level : ℕ) → Lane
+abbrev pub as_lane : (banks times low : ℕ) → (offset : ℤ) → (level : ℕ) → BankDimension
 as_lane banks times low offset level = record { banks = banks; times = times; low = low; offset = offset; level = level }
 
 -- the lanes so far, the last dimension first
-pub record LanesSoFar (tree : Tree) (loops : List Counter) (dims : List Dim) (es : List Expr) (i : ℕ) (lanes : List Lane) (times : ℕ) : Type 0 where
+pub record LanesSoFar (tree : Tree) (loops : List Counter) (dims : List Dim) (es : List Expr) (i : ℕ) (lanes : List BankDimension) (times : ℕ) : Type 0 where
   pub counted : times ≡ banks_of (drop i dims)
   pub few : all_lane_banks lanes ≤ 2 * banks_of (drop i dims)
   pub banks : HaveBanks lanes
-  pub each : (picks : ℕ → Bool) (levels : List Level) (number : ℕ) → AreLevels picks 0 (loop_factors loops) levels
+  pub each : (picks : ℕ → Bool) (levels : List CopyLevel) (number : ℕ) → AreLevels picks 0 (loop_factors loops) levels
       → bank_of_lanes levels lanes number ≡ bank_of (drop i dims) (indices_at tree loops number (drop i es))
 
-abbrev value_of : List Level → (number : ℕ) → Lane → ℕ
+abbrev value_of : List CopyLevel → (number : ℕ) → BankDimension → ℕ
 value_of levels number l = (unsigned_abs (pos (l.low + copy_of_level levels l.level number) +ℤ l.offset) % l.banks) * l.times
 
-told_append : (levels : List Level) (ls : List Lane) (l : Lane) (n : ℕ) → bank_of_lanes levels (ls ++ l ∷ []) n ≡ value_of levels n l + bank_of_lanes levels ls n
+told_append : (levels : List CopyLevel) (ls : List BankDimension) (l : BankDimension) (n : ℕ) → bank_of_lanes levels (ls ++ l ∷ []) n ≡ value_of levels n l + bank_of_lanes levels ls n
 told_append levels [] l n = refl
 told_append levels (x ∷ ls) l n = ap (λ m. value_of levels n x + m) (told_append levels ls l n) ∙ swapped _ _ _
   where
     swapped : (a b c : ℕ) → a + (b + c) ≡ b + (a + c)
     swapped a b c = omega arith
 
-banks_append : (ls : List Lane) (l : Lane) → all_lane_banks (ls ++ l ∷ []) ≡ l.banks * l.times + all_lane_banks ls
+banks_append : (ls : List BankDimension) (l : BankDimension) → all_lane_banks (ls ++ l ∷ []) ≡ l.banks * l.times + all_lane_banks ls
 banks_append [] l = refl
 banks_append (x ∷ ls) l = ap (λ m. x.banks * x.times + m) (banks_append ls l) ∙ swapped _ _ _
   where
     swapped : (a b c : ℕ) → a + (b + c) ≡ b + (a + c)
     swapped a b c = omega arith
 
-have_append : (ls : List Lane) (l : Lane) → HaveBanks ls → 1 ≤ l.banks → HaveBanks (ls ++ l ∷ [])
+have_append : (ls : List BankDimension) (l : BankDimension) → HaveBanks ls → 1 ≤ l.banks → HaveBanks (ls ++ l ∷ [])
 have_append [] l h e = (e, tt)
 have_append (x ∷ ls) l h e = (h.0, have_append ls l h.1 e)
 
@@ -82,11 +82,11 @@ item_there (x ∷ xs) (suc k) h = item_there xs k (less k (length xs) h)
     less k n e = omega (arith, e)
 
 module _ (tree : Tree) (loops : List Counter) (ds : List Dim) (es : List Expr) (h : AllByRecursion IsDim ds) (few : banks_of ds ≤ 64) where
-  pub lanes_none : (n : ℕ) (lanes : List Lane) → n ≡ length ds → lanes ≡ [] → LanesSoFar tree loops ds es n lanes 1
+  pub lanes_none : (n : ℕ) (lanes : List BankDimension) → n ≡ length ds → lanes ≡ [] → LanesSoFar tree loops ds es n lanes 1
   lanes_none n lanes e f = record {
     counted = ap banks_of (sym past);
-    few = subst (λ (ls : List Lane). all_lane_banks ls ≤ 2 * banks_of (drop n ds)) (sym f) (least (2 * banks_of (drop n ds)));
-    banks = subst (λ (ls : List Lane). HaveBanks ls) (sym f) tt;
+    few = subst (λ (ls : List BankDimension). all_lane_banks ls ≤ 2 * banks_of (drop n ds)) (sym f) (least (2 * banks_of (drop n ds)));
+    banks = subst (λ (ls : List BankDimension). HaveBanks ls) (sym f) tt;
     each = λ picks levels number a. ap (λ ls. bank_of_lanes levels ls number) f ∙ ap (λ l. bank_of l (indices_at tree loops number (drop n es))) (sym past);
   }
     where
@@ -100,7 +100,7 @@ module _ (tree : Tree) (loops : List Counter) (ds : List Dim) (es : List Expr) (
       least : (n : ℕ) → 0 ≤ n
       least n = omega arith
 
-  pub lanes_done : (lanes : List Lane) (times : ℕ) → LanesSoFar tree loops ds es 0 lanes times → AreIndexLanes tree loops ds es lanes
+  pub lanes_done : (lanes : List BankDimension) (times : ℕ) → LanesSoFar tree loops ds es 0 lanes times → AreIndexLanes tree loops ds es lanes
   lanes_done lanes times so = record {
     few = record { few = within (all_lane_banks lanes) (banks_of ds) so.few few; banks = so.banks };
     each = so.each;
@@ -109,7 +109,7 @@ module _ (tree : Tree) (loops : List Counter) (ds : List Dim) (es : List Expr) (
       within : (n b : ℕ) → n ≤ 2 * b → b ≤ 64 → n ≤ 4096
       within n b e f = omega (arith, e, f)
 
-  module _ (i : ℕ) (d : Dim) (some : 0 < i) (within : i ≤ length ds) (lanes lanes1 : List Lane) (times times1 : ℕ) (so : LanesSoFar tree loops ds es i lanes times) (timed : times1 ≡ (get_or ds (i - 1) d).banks * times) where
+  module _ (i : ℕ) (d : Dim) (some : 0 < i) (within : i ≤ length ds) (lanes lanes1 : List BankDimension) (times times1 : ℕ) (so : LanesSoFar tree loops ds es i lanes times) (timed : times1 ≡ (get_or ds (i - 1) d).banks * times) where
     here : drop (i - 1) ds ≡ get_or ds (i - 1) d ∷ drop i ds
     here = at_place ds (i - 1) d (before i (length ds) some within) ∙ ap (λ n. get_or ds (i - 1) d ∷ drop n ds) (back i some)
 
@@ -121,7 +121,7 @@ module _ (tree : Tree) (loops : List Counter) (ds : List Dim) (es : List Expr) (
 
     -- where no lane is added
     few_still : lanes1 ≡ lanes → all_lane_banks lanes1 ≤ 2 * banks_of (drop (i - 1) ds)
-    few_still e = subst (λ (ls : List Lane). all_lane_banks ls ≤ 2 * banks_of (drop (i - 1) ds)) (sym e) (subst (λ (l : List Dim). all_lane_banks lanes ≤ 2 * banks_of l) (sym here) (more _ (banks_of (drop i ds)) (get_or ds (i - 1) d).banks so.few some_banks))
+    few_still e = subst (λ (ls : List BankDimension). all_lane_banks ls ≤ 2 * banks_of (drop (i - 1) ds)) (sym e) (subst (λ (l : List Dim). all_lane_banks lanes ≤ 2 * banks_of l) (sym here) (more _ (banks_of (drop i ds)) (get_or ds (i - 1) d).banks so.few some_banks))
       where
         more : (n b k : ℕ) → n ≤ 2 * b → 1 ≤ k → n ≤ 2 * (k * b)
         more n b k e f = upto n b (k * b) e (larger b k f)
@@ -144,10 +144,10 @@ module _ (tree : Tree) (loops : List Counter) (ds : List Dim) (es : List Expr) (
         → lanes1 ≡ lanes ++ record { banks = (get_or ds (i - 1) d).banks; times = times; low = start.low; offset = start.offset; level = level } ∷ [] → LanesSoFar tree loops ds es (i - 1) lanes1 times1
     lane_more e start level inside is s l large pushed = record {
       counted = counted;
-      few = subst (λ (ls : List Lane). all_lane_banks ls ≤ 2 * banks_of (drop (i - 1) ds)) (sym pushed)
+      few = subst (λ (ls : List BankDimension). all_lane_banks ls ≤ 2 * banks_of (drop (i - 1) ds)) (sym pushed)
           (subst (λ (n : ℕ). n ≤ 2 * banks_of (drop (i - 1) ds)) (sym (banks_append lanes _ ∙ ap (λ n. (get_or ds (i - 1) d).banks * n + all_lane_banks lanes) so.counted))
           (subst (λ (x : List Dim). (get_or ds (i - 1) d).banks * banks_of (drop i ds) + all_lane_banks lanes ≤ 2 * banks_of x) (sym here) (sums (banks_of (drop i ds)) (get_or ds (i - 1) d).banks _ large so.few)));
-      banks = subst (λ (ls : List Lane). HaveBanks ls) (sym pushed) (have_append lanes _ so.banks some_banks);
+      banks = subst (λ (ls : List BankDimension). HaveBanks ls) (sym pushed) (have_append lanes _ so.banks some_banks);
       each = λ picks levels number a.
           ap (λ ls. bank_of_lanes levels ls number) pushed
           ∙ (told_append levels lanes _ number
@@ -171,7 +171,7 @@ module _ (tree : Tree) (loops : List Counter) (ds : List Dim) (es : List Expr) (
     lane_one inside small same = record {
       counted = counted;
       few = few_still same;
-      banks = subst (λ (ls : List Lane). HaveBanks ls) (sym same) so.banks;
+      banks = subst (λ (ls : List BankDimension). HaveBanks ls) (sym same) so.banks;
       each = λ picks levels number a.
           let e = item_there es (i - 1) inside in
           ap (λ ls. bank_of_lanes levels ls number) same
@@ -194,7 +194,7 @@ module _ (tree : Tree) (loops : List Counter) (ds : List Dim) (es : List Expr) (
     lane_same past same = record {
       counted = counted;
       few = few_still same;
-      banks = subst (λ (ls : List Lane). HaveBanks ls) (sym same) so.banks;
+      banks = subst (λ (ls : List BankDimension). HaveBanks ls) (sym same) so.banks;
       each = λ picks levels number a.
           ap (λ ls. bank_of_lanes levels ls number) same
           ∙ (so.each picks levels number a

@@ -9,8 +9,8 @@ use Rattle.dh_tree.specs.declared.trees.counters.Counter.{Counter}
 use Rattle.dh_tree.specs.declared.trees.expressions.Expr.{Expr}
 use Rattle.dh_meaning.specs.Bindings.{Binding}
 use Rattle.dh_meets.specs.Charges.{loop_factors, depends}
-use Rattle.dh_ports.specs.declared.copies.Level.{Level}
-use Rattle.dh_ports.specs.declared.copies.Paths.{Paths}
+use Rattle.dh_ports.specs.declared.copies.CopyLevel.{CopyLevel}
+use Rattle.dh_ports.specs.declared.copies.AccessPaths.{AccessPaths}
 use Rattle.dh_events.specs.declared.dependence.Scope.{Scope}
 use Rattle.dh_ports.specs.Banks.{path_of_number, keys_in, key_number}
 use Rattle.dh_ports.specs.Claims.{source_of}
@@ -28,7 +28,7 @@ abbrev pub most : ℕ
 most = 2 ^ 64 - 1
 
 -- the levels so far, the innermost first
-pub record LevelsSoFar (scopes : List (Option Scope)) (loops : List Counter) (access : Expr) (writes : Bool) (i : ℕ) (levels : List Level) (count keys : ℕ) : Type 0 where
+pub record LevelsSoFar (scopes : List (Option Scope)) (loops : List Counter) (access : Expr) (writes : Bool) (i : ℕ) (levels : List CopyLevel) (count keys : ℕ) : Type 0 where
   pub counted : count ≡ min (copies_in (loop_factors (drop i loops))) most
   pub each : (bs : List Binding) → AreScopes bs scopes → 1 ≤ copies_round loops
       → AreLevels (depends bs (source_of loops writes access)) i (loop_factors (drop i loops)) (reverse levels) × (keys ≡ keys_in (depends bs (source_of loops writes access)) i (loop_factors (drop i loops)))
@@ -86,15 +86,15 @@ back i e = omega (arith, e)
 before : (i n : ℕ) → 0 < i → i ≤ n → i - 1 < n
 before i n e f = omega (arith, e, f)
 
-abbrev pub as_level : ℕ → ℕ → ℕ → Level
+abbrev pub as_level : ℕ → ℕ → ℕ → CopyLevel
 as_level factor stride share = record { factor = factor; stride = stride; share = share }
 
 module _ (scopes : List (Option Scope)) (loops : List Counter) (access : Expr) (writes : Bool) (few : copies_round loops ≤ 256) where
-  pub levels_none : (n : ℕ) (levels : List Level) → n ≡ length loops → levels ≡ [] → LevelsSoFar scopes loops access writes n levels 1 1
+  pub levels_none : (n : ℕ) (levels : List CopyLevel) → n ≡ length loops → levels ≡ [] → LevelsSoFar scopes loops access writes n levels 1 1
   levels_none n levels e f = record {
     counted = ap (λ (l : List Counter). min (copies_in (loop_factors l)) most) (sym past);
     each = λ bs are one. (
-      subst (λ (l : List Counter). AreLevels (depends bs (source_of loops writes access)) n (loop_factors l) (reverse levels)) (sym past) (subst (λ (ls : List Level). AreLevels (depends bs (source_of loops writes access)) n [] (reverse ls)) (sym f) tt),
+      subst (λ (l : List Counter). AreLevels (depends bs (source_of loops writes access)) n (loop_factors l) (reverse levels)) (sym past) (subst (λ (ls : List CopyLevel). AreLevels (depends bs (source_of loops writes access)) n [] (reverse ls)) (sym f) tt),
       ap (λ (l : List Counter). keys_in (depends bs (source_of loops writes access)) n (loop_factors l)) (sym past),
     );
   }
@@ -106,16 +106,16 @@ module _ (scopes : List (Option Scope)) (loops : List Counter) (access : Expr) (
       past : drop n loops ≡ []
       past = ap (λ k. drop k loops) e ∙ all_past loops
 
-  pub paths_done : (paths : Paths) (levels : List Level) (count keys : ℕ) → LevelsSoFar scopes loops access writes 0 levels count keys → paths.count ≡ count → paths.levels.items ≡ reverse levels → AreAccessPaths scopes loops access writes paths
+  pub paths_done : (paths : AccessPaths) (levels : List CopyLevel) (count keys : ℕ) → LevelsSoFar scopes loops access writes 0 levels count keys → paths.count ≡ count → paths.levels.items ≡ reverse levels → AreAccessPaths scopes loops access writes paths
   paths_done paths levels count keys so e f = record {
     count = e ∙ (so.counted ∙ min-eq_left (below (copies_round loops) few));
-    levels = λ bs are one. subst (λ (ls : List Level). AreLevels (depends bs (source_of loops writes access)) 0 (loop_factors loops) ls) (sym f) (so.each bs are one).0;
+    levels = λ bs are one. subst (λ (ls : List CopyLevel). AreLevels (depends bs (source_of loops writes access)) 0 (loop_factors loops) ls) (sym f) (so.each bs are one).0;
   }
     where
       below : (n : ℕ) → n ≤ 256 → n ≤ 2 ^ 64 - 1
       below n e = omega (arith, e)
 
-  module _ (i : ℕ) (d : Counter) (some : 0 < i) (within : i ≤ length loops) (levels levels1 : List Level) (count keys count1 keys1 : ℕ) (counts : Bool) (so : LevelsSoFar scopes loops access writes i levels count keys)
+  module _ (i : ℕ) (d : Counter) (some : 0 < i) (within : i ≤ length loops) (levels levels1 : List CopyLevel) (count keys count1 keys1 : ℕ) (counts : Bool) (so : LevelsSoFar scopes loops access writes i levels count keys)
       (told : (bs : List Binding) → AreScopes bs scopes → counts ≡ depends bs (source_of loops writes access) (i - 1)) where
     here : loop_factors (drop (i - 1) loops) ≡ (get_or loops (i - 1) d).factor ∷ loop_factors (drop i loops)
     here = ap loop_factors (at_place loops (i - 1) d (before i (length loops) some within) ∙ ap (λ n. get_or loops (i - 1) d ∷ drop n loops) (back i some))
@@ -128,7 +128,7 @@ module _ (scopes : List (Option Scope)) (loops : List Counter) (access : Expr) (
           let rest = copies_rest loops i one in
           let all = copies_rest loops (i - 1) one in
           let old = so.each bs are one in (
-            subst (λ (ls : List Level). AreLevels (depends bs (source_of loops writes access)) (i - 1) (loop_factors (drop (i - 1) loops)) ls) (sym (ap reverse pushed ∙ reverse-append levels (as_level (get_or loops (i - 1) d).factor count (if counts then keys else 0) ∷ [])))
+            subst (λ (ls : List CopyLevel). AreLevels (depends bs (source_of loops writes access)) (i - 1) (loop_factors (drop (i - 1) loops)) ls) (sym (ap reverse pushed ∙ reverse-append levels (as_level (get_or loops (i - 1) d).factor count (if counts then keys else 0) ∷ [])))
                 (subst (λ (fs : List ℕ). AreLevels (depends bs (source_of loops writes access)) (i - 1) fs (as_level (get_or loops (i - 1) d).factor count (if counts then keys else 0) ∷ reverse levels)) (sym here) (
                   (refl, (so.counted ∙ min-eq_left (below _ _ rest.1 few), ap (λ b. if b then keys else 0) (told bs are) ∙ ap (λ n. if depends bs (source_of loops writes access) (i - 1) then n else 0) (old.1 ∙ at_next bs))),
                   subst (λ (n : ℕ). AreLevels (depends bs (source_of loops writes access)) n (loop_factors (drop i loops)) (reverse levels)) (sym (back i some)) old.0,
@@ -169,7 +169,7 @@ module _ (scopes : List (Option Scope)) (loops : List Counter) (access : Expr) (
 
 -- What levels tell.
 
-pub key_told : (picks : ℕ → Bool) (level : ℕ) (fs : List ℕ) (ls : List Level) (n : ℕ) → AreLevels picks level fs ls → key_of_levels ls n ≡ key_number picks level fs n
+pub key_told : (picks : ℕ → Bool) (level : ℕ) (fs : List ℕ) (ls : List CopyLevel) (n : ℕ) → AreLevels picks level fs ls → key_of_levels ls n ≡ key_number picks level fs n
 key_told picks level [] [] n h = refl
 key_told picks level [] (l ∷ ls) n h = absurd h
 key_told picks level (f ∷ fs) [] n h = absurd h
@@ -184,7 +184,7 @@ key_told picks level (f ∷ fs) (l ∷ ls) n h =
     by true = refl
     by false = none ((n / copies_in fs) % f)
 
-pub levels_spread : (picks : ℕ → Bool) (level : ℕ) (fs : List ℕ) (ls : List Level) → 1 ≤ copies_in fs → AreLevels picks level fs ls → AllByRecursion IsSpreadLevel ls
+pub levels_spread : (picks : ℕ → Bool) (level : ℕ) (fs : List ℕ) (ls : List CopyLevel) → 1 ≤ copies_in fs → AreLevels picks level fs ls → AllByRecursion IsSpreadLevel ls
 levels_spread picks level [] [] e h = tt
 levels_spread picks level [] (l ∷ ls) e h = absurd h
 levels_spread picks level (f ∷ fs) [] e h = absurd h
@@ -193,7 +193,7 @@ levels_spread picks level (f ∷ fs) (l ∷ ls) e h =
     (record { factor = subst (λ (n : ℕ). 1 ≤ n) (sym h.0.0) more.0; stride = subst (λ (n : ℕ). 1 ≤ n) (sym h.0.1.0) more.1 }, levels_spread picks (level + 1) fs ls more.1 h.1)
 
 -- the greatest key is below the keys
-pub greatest_below : (picks : ℕ → Bool) (level : ℕ) (fs : List ℕ) (ls : List Level) → 1 ≤ copies_in fs → AreLevels picks level fs ls → greatest_key ls + 1 ≤ keys_in picks level fs
+pub greatest_below : (picks : ℕ → Bool) (level : ℕ) (fs : List ℕ) (ls : List CopyLevel) → 1 ≤ copies_in fs → AreLevels picks level fs ls → greatest_key ls + 1 ≤ keys_in picks level fs
 greatest_below picks level [] [] e h = omega arith
 greatest_below picks level [] (l ∷ ls) e h = absurd h
 greatest_below picks level (f ∷ fs) [] e h = absurd h
@@ -229,7 +229,7 @@ greatest_below picks level (f ∷ fs) (l ∷ ls) e h =
     by true (suc f) some e = first f (keys_in picks (level + 1) fs) (greatest_key ls) e
     by false f some e = other f _ _ e
 
-pub copy_told : (picks : ℕ → Bool) (level : ℕ) (fs : List ℕ) (ls : List Level) (n k : ℕ) → AreLevels picks level fs ls → copy_of_level ls k n ≡ slice_index_or (path_of_number fs n) k 0
+pub copy_told : (picks : ℕ → Bool) (level : ℕ) (fs : List ℕ) (ls : List CopyLevel) (n k : ℕ) → AreLevels picks level fs ls → copy_of_level ls k n ≡ slice_index_or (path_of_number fs n) k 0
 copy_told picks level [] [] n k h = refl
 copy_told picks level [] (l ∷ ls) n k h = absurd h
 copy_told picks level (f ∷ fs) [] n k h = absurd h

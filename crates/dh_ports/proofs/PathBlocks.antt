@@ -8,7 +8,7 @@ use Rattle.std.proofs.lemmas.Nat.{div-add-mod', div-mul-add}
 use Rattle.std.proofs.Math.Nat.{div-div-eq-div-mul, mod-eq_of_lt, mod-lt, mul_comm}
 use Rattle.dh_tree.proofs.BankElements.{column_exists, row_below}
 use Rattle.dh_meaning.specs.Paths.{Path, copies_in, same_path}
-use Rattle.dh_ports.specs.declared.copies.Level.{Level}
+use Rattle.dh_ports.specs.declared.copies.CopyLevel.{CopyLevel}
 use Rattle.dh_ports.specs.Banks.{each_below, path_of_number}
 use Rattle.dh_ports.specs.Copies.{stride_in, AreLevels}
 use Rattle.dh_ports.proofs.PathNumbers.{each_more, each_same, path_round}
@@ -64,7 +64,7 @@ take_path (f ∷ fs) (suc s) n =
     (ap (λ c. n / c) (copies_split fs s ∙ mul_comm (copies_in (take s fs)) (copies_in (drop s fs))) ∙ sym (div-div-eq-div-mul n (copies_in (drop s fs)) (copies_in (take s fs))))
 
 -- how many paths there are inside the outer loops is kept with the levels of all loops
-pub stride_is : (picks : ℕ → Bool) (level : ℕ) (fs : List ℕ) (ls : List Level) (s count : ℕ) → AreLevels picks level fs ls → count ≡ copies_in fs → stride_in ls s count ≡ copies_in (drop s fs)
+pub stride_is : (picks : ℕ → Bool) (level : ℕ) (fs : List ℕ) (ls : List CopyLevel) (s count : ℕ) → AreLevels picks level fs ls → count ≡ copies_in fs → stride_in ls s count ≡ copies_in (drop s fs)
 stride_is picks level [] [] zero count h e = e
 stride_is picks level [] [] (suc s) count h e = e
 stride_is picks level [] (l ∷ ls) s count h e = absurd h

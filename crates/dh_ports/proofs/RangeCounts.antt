@@ -2,7 +2,7 @@
 use Rattle.std.proofs.Common.{◌≡◌, ℕ, suc, add-one, ◌+◌, ◌*◌, ◌<◌, ◌≤◌, ◌==◌, not, Bool, true, false, List, [], replicate, slice_index, slice_set, refl, ap, sym, ◌∙◌, subst, arith, ◌⊎◌, inl, inr}
 use Rattle.std.proofs.lemmas.Bool.{cases_Bool, eqb-true, eq-eqb}
 use Rattle.dh_events.specs.Tables.{with_number}
-use Rattle.dh_ports.specs.declared.copies.Reach.{Reach}
+use Rattle.dh_ports.specs.declared.copies.PathReach.{PathReach}
 use Rattle.dh_ports.specs.Copies.{all_lane_banks, bank_at_path_number, bank_of_lanes, bank_counts_raised, key_by, key_count_from, same_number, AreKeyCounts, TellsPaths}
 use Rattle.dh_ports.proofs.CopyTurns.{bank_most}
 use Rattle.dh_ports.proofs.KeyCounts.{CountsSoFar, count_few, counts_beyond, counts_more, counts_none, counts_same, met, reaching_most}
@@ -14,11 +14,11 @@ pub numbers_same : (m n : ℕ) → same_number m n ≡ true → m ≡ n
 numbers_same m n e = eqb-true m n e
 
 -- the counts, and the pairs seen, when so many of these paths were gone through
-abbrev pub RangeCounted : Reach → (from banks moment step : ℕ) → (counts : List ℕ) → (seen : ℕ → ℕ) → Type 0
+abbrev pub RangeCounted : PathReach → (from banks moment step : ℕ) → (counts : List ℕ) → (seen : ℕ → ℕ) → Type 0
 RangeCounted reach from banks moment step counts seen =
     CountsSoFar same_number own_number numbers_same (λ k. from + k) (key_by reach) (bank_at_path_number reach) (λ k. key_by reach (from + k)) reach.paths.count banks moment step counts seen
 
-module _ (reach : Reach) (from banks moment : ℕ) where
+module _ (reach : PathReach) (from banks moment : ℕ) where
   pub range_none : (counts : List ℕ) (seen : ℕ → ℕ) → counts ≡ replicate banks 0 → ((pair : ℕ) → seen pair < moment) → RangeCounted reach from banks moment 0 counts seen
   range_none counts seen e h = counts_none same_number own_number numbers_same (λ k. from + k) (key_by reach) (bank_at_path_number reach) (λ k. key_by reach (from + k)) reach.paths.count banks moment counts seen e h
 
@@ -77,7 +77,7 @@ module _ (reach : Reach) (from banks moment : ℕ) where
             (rises ∙ (ap (λ b. bank_counts_raised b counts bank) e ∙ ap (λ b. slice_set counts b (slice_index counts b + 1)) is))
 
 -- no bank is reached with more keys than there are paths
-pub keys_from_most : (reach : Reach) (from many bank : ℕ) → key_count_from reach from many bank ≤ many
+pub keys_from_most : (reach : PathReach) (from many bank : ℕ) → key_count_from reach from many bank ≤ many
 keys_from_most reach from many bank = reaching_most same_number own_number numbers_same (λ k. from + k) (key_by reach) (bank_at_path_number reach) (λ k. key_by reach (from + k)) reach.paths.count 0 many bank
 
 -- what an access names itself and what its dimensions tell: one of them is 0
@@ -85,7 +85,7 @@ pub record Alone (own told : ℕ) : Type 0 where
   pub alone : (own ≡ 0) ⊎ (told ≡ 0)
   pub few : told ≤ 4096
 
-pub alone_of : (reach : Reach) (number told : ℕ) → TellsPaths reach → told ≡ bank_of_lanes reach.paths.levels.items reach.lanes.items number → Alone reach.own told
+pub alone_of : (reach : PathReach) (number told : ℕ) → TellsPaths reach → told ≡ bank_of_lanes reach.paths.levels.items reach.lanes.items number → Alone reach.own told
 alone_of reach number told tells e = record {
   alone = by tells.alone;
   few = within told (bank_of_lanes reach.paths.levels.items reach.lanes.items number) (all_lane_banks reach.lanes.items) e (bank_most reach.paths.levels.items reach.lanes.items number tells.lanes.banks) tells.lanes.few;

@@ -13,7 +13,7 @@ use Rattle.dh_events.specs.Scopes.{AreScopes}
 use Rattle.dh_meaning.specs.Paths.{same_path}
 use Rattle.dh_meaning.specs.Ways.{all_bindings_of}
 use Rattle.dh_meets.specs.Charges.{loop_factors, depends, key_of}
-use Rattle.dh_ports.specs.declared.copies.Reach.{Reach}
+use Rattle.dh_ports.specs.declared.copies.PathReach.{PathReach}
 use Rattle.dh_ports.specs.Banks.{bank_at_path, each_below, key_number, path_of_number}
 use Rattle.dh_ports.specs.Claims.{keys_on, source_of}
 use Rattle.dh_ports.specs.Copies.{bank_at_path_number, copies_round, key_by, key_count_from, same_number, AreKeyCounts, IsAccessReach, TellsPaths}
@@ -25,7 +25,7 @@ pub none_or_some : (m : ℕ) → (1 ≤ m) ⊎ (m ≡ 0)
 none_or_some zero = inr refl
 none_or_some (suc m) = inl (omega arith)
 
-module _ (tree : Tree) (scopes : List (Option Scope)) (loops : List Counter) (dims : List Dim) (access : Expr) (writes : Bool) (reach : Reach) (so : IsAccessReach scopes tree loops dims access writes reach) (are : AreScopes (all_bindings_of (program_seen tree)) scopes) where
+module _ (tree : Tree) (scopes : List (Option Scope)) (loops : List Counter) (dims : List Dim) (access : Expr) (writes : Bool) (reach : PathReach) (so : IsAccessReach scopes tree loops dims access writes reach) (are : AreScopes (all_bindings_of (program_seen tree)) scopes) where
   module _ (one : 1 ≤ reach.paths.count) where
     pub bank_told : (number : ℕ) → bank_at_path_number reach number ≡ bank_at_path tree dims (source_of loops writes access) (path_of_number (loop_factors loops) number)
     bank_told number =

@@ -14,9 +14,9 @@ use Rattle.dh_tree.specs.Seen.{form_seen, term_seen, terms}
 use Rattle.dh_meaning.specs.Bindings.{Binding}
 use Rattle.dh_meets.specs.Charges.{bank_reached, loop_factors, depends}
 use Rattle.dh_meets.specs.SourceEvents.{with_indices}
-use Rattle.dh_ports.specs.declared.copies.Level.{Level}
-use Rattle.dh_ports.specs.declared.copies.Lane.{Lane}
-use Rattle.dh_ports.specs.declared.copies.Paths.{Paths}
+use Rattle.dh_ports.specs.declared.copies.CopyLevel.{CopyLevel}
+use Rattle.dh_ports.specs.declared.copies.BankDimension.{BankDimension}
+use Rattle.dh_ports.specs.declared.copies.AccessPaths.{AccessPaths}
 use Rattle.dh_events.specs.declared.dependence.Scope.{Scope}
 use Rattle.dh_ports.specs.Banks.{key_number, path_of_number}
 use Rattle.dh_shape.specs.Classified.{loops_in}
@@ -33,7 +33,7 @@ no_lanes : HasFewBanks []
 no_lanes = record { few = omega arith; banks = tt }
 
 module _ (tree : Tree) (loops : List Counter) (dims : List Dim) (access : Expr) where
-  pub reach_lanes : (lanes : List Lane) (of : Ref) (es : List Expr) → form_seen access.form ≡ accessed of (terms (map term_seen es)) → AreIndexLanes tree loops dims es lanes → IsReach tree loops dims access lanes 0
+  pub reach_lanes : (lanes : List BankDimension) (of : Ref) (es : List Expr) → form_seen access.form ≡ accessed of (terms (map term_seen es)) → AreIndexLanes tree loops dims es lanes → IsReach tree loops dims access lanes 0
   reach_lanes lanes of es e are = record {
     few = are.few;
     alone = inl refl;
@@ -45,9 +45,9 @@ module _ (tree : Tree) (loops : List Counter) (dims : List Dim) (access : Expr) 
       none : (n : ℕ) → 0 + n ≡ n
       none n = omega arith
 
-  pub reach_row : (lanes : List Lane) (of : Ref) (bank : ℕ) (place : Place) (row : Term) → lanes ≡ [] → form_seen access.form ≡ in_bank of bank place row → IsReach tree loops dims access lanes bank
+  pub reach_row : (lanes : List BankDimension) (of : Ref) (bank : ℕ) (place : Place) (row : Term) → lanes ≡ [] → form_seen access.form ≡ in_bank of bank place row → IsReach tree loops dims access lanes bank
   reach_row lanes of bank place row l e = record {
-    few = subst (λ (x : List Lane). HasFewBanks x) (sym l) no_lanes;
+    few = subst (λ (x : List BankDimension). HasFewBanks x) (sym l) no_lanes;
     alone = inr l;
     each = λ picks levels writes number a.
         ap (λ x. bank + bank_of_lanes levels x number) l
@@ -57,9 +57,9 @@ module _ (tree : Tree) (loops : List Counter) (dims : List Dim) (access : Expr) 
       none : (n : ℕ) → n + 0 ≡ n
       none n = omega arith
 
-  pub reach_none : (lanes : List Lane) → lanes ≡ [] → element_in (form_seen access.form) ≡ with_indices no_terms → IsReach tree loops dims access lanes 0
+  pub reach_none : (lanes : List BankDimension) → lanes ≡ [] → element_in (form_seen access.form) ≡ with_indices no_terms → IsReach tree loops dims access lanes 0
   reach_none lanes l e = record {
-    few = subst (λ (x : List Lane). HasFewBanks x) (sym l) no_lanes;
+    few = subst (λ (x : List BankDimension). HasFewBanks x) (sym l) no_lanes;
     alone = inr l;
     each = λ picks levels writes number a.
         ap (λ x. 0 + bank_of_lanes levels x number) l
@@ -67,7 +67,7 @@ module _ (tree : Tree) (loops : List Counter) (dims : List Dim) (access : Expr) 
   }
 
   -- an own bank and what lanes tell fit a word
-  pub reach_few : (lanes : List Lane) (own : ℕ) (levels : List Level) (number : ℕ) → IsReach tree loops dims access lanes own → own < 2 ^ 64 → own + bank_of_lanes levels lanes number < 2 ^ 64
+  pub reach_few : (lanes : List BankDimension) (own : ℕ) (levels : List CopyLevel) (number : ℕ) → IsReach tree loops dims access lanes own → own < 2 ^ 64 → own + bank_of_lanes levels lanes number < 2 ^ 64
   reach_few lanes own levels number r e = by r.alone (bank_most levels lanes number r.few.banks)
     where
       first : (o n m : ℕ) → o ≡ 0 → n ≤ m → m ≤ 4096 → o + n < 2 ^ 64
@@ -78,9 +78,9 @@ module _ (tree : Tree) (loops : List Counter) (dims : List Dim) (access : Expr) 
 
       by : (own ≡ 0) ⊎ (lanes ≡ []) → bank_of_lanes levels lanes number ≤ all_lane_banks lanes → own + bank_of_lanes levels lanes number < 2 ^ 64
       by (inl z) h = first own _ _ z h r.few.few
-      by (inr l) h = subst (λ (x : List Lane). own + bank_of_lanes levels x number < 2 ^ 64) (sym l) (other own e)
+      by (inr l) h = subst (λ (x : List BankDimension). own + bank_of_lanes levels x number < 2 ^ 64) (sym l) (other own e)
 
-module _ (bs : List Binding) (scopes : List (Option Scope)) (loops : List Counter) (access : Expr) (writes : Bool) (paths : Paths) (so : AreAccessPaths scopes loops access writes paths) (are : AreScopes bs scopes) (one : 1 ≤ paths.count) where
+module _ (bs : List Binding) (scopes : List (Option Scope)) (loops : List Counter) (access : Expr) (writes : Bool) (paths : AccessPaths) (so : AreAccessPaths scopes loops access writes paths) (are : AreScopes bs scopes) (one : 1 ≤ paths.count) where
   pub copies_some : 1 ≤ copies_round loops
   copies_some = subst (λ (n : ℕ). 1 ≤ n) so.count one
 

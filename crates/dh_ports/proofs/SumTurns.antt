@@ -4,10 +4,10 @@ use Rattle.std.specs.List.{filter}
 use Rattle.std.specs.Set.{distinct_count}
 use Rattle.dh_viewing.specs.Carried.{largest}
 use Rattle.dh_ports.specs.declared.carrying.Carrier.{Carrier}
-use Rattle.dh_ports.specs.declared.copies.Lane.{Lane}
-use Rattle.dh_ports.specs.declared.copies.Level.{Level}
-use Rattle.dh_ports.specs.declared.copies.Reach.{Reach}
-use Rattle.dh_ports.specs.declared.keeping.Counts.{Counts}
+use Rattle.dh_ports.specs.declared.copies.BankDimension.{BankDimension}
+use Rattle.dh_ports.specs.declared.copies.CopyLevel.{CopyLevel}
+use Rattle.dh_ports.specs.declared.copies.PathReach.{PathReach}
+use Rattle.dh_ports.specs.declared.keeping.BankKeyCounts.{BankKeyCounts}
 use Rattle.dh_ports.specs.declared.keeping.Sums.{Sums}
 use Rattle.dh_ports.specs.Banks.{each_below}
 use Rattle.dh_ports.specs.Carriers.{sum_below, AreGroupSums}
@@ -16,10 +16,10 @@ use Rattle.dh_ports.specs.Tallies.{AreCountsKept, AreCountsOf, AreSums, AreSumsO
 use Rattle.dh_ports.proofs.CarrierMade.{zero_at, zeros_long}
 
 -- keys on a bank, by the parts of what an access reaches
-abbrev keys_of : List Level → List Lane → (own from many bank : ℕ) → ℕ
+abbrev keys_of : List CopyLevel → List BankDimension → (own from many bank : ℕ) → ℕ
 keys_of levels lanes own from many bank = distinct_count same_number (map (λ number. key_of_levels levels number) (filter (λ number. (own + bank_of_lanes levels lanes number) == bank) (each_below (λ k. from + k) many)))
 
-pub counts_alike : (r s : Reach) (from many banks : ℕ) (counts : List ℕ) → ReachAlike r s → AreKeyCounts r from many banks counts → AreKeyCounts s from many banks counts
+pub counts_alike : (r s : PathReach) (from many banks : ℕ) (counts : List ℕ) → ReachAlike r s → AreKeyCounts r from many banks counts → AreKeyCounts s from many banks counts
 counts_alike r s from many banks counts reaches are = record {
   long = are.long;
   each = λ bank inside.
@@ -28,25 +28,25 @@ counts_alike r s from many banks counts reaches are = record {
       ∙ (ap (λ x. keys_of s.paths.levels.items x r.own from many bank) reaches.lanes ∙ ap (λ x. keys_of s.paths.levels.items s.lanes.items x from many bank) reaches.own));
 }
 
-pub counts_again : (c : Counts) (reach : Reach) (many banks : ℕ) → AreCountsOf c reach many banks → AreCountsKept c → AreKeyCounts reach 0 many banks c.counts.items
+pub counts_again : (c : BankKeyCounts) (reach : PathReach) (many banks : ℕ) → AreCountsOf c reach many banks → AreCountsKept c → AreKeyCounts reach 0 many banks c.counts.items
 counts_again c reach many banks alike are =
     subst (λ (n : ℕ). AreKeyCounts reach 0 n banks c.counts.items) alike.same_many
     (subst (λ (n : ℕ). AreKeyCounts reach 0 c.many n c.counts.items) alike.same_banks
     (counts_alike c.reach reach 0 c.many c.banks c.counts.items alike.reaches are))
 
 -- those of no bank
-pub no_bank_counted : (reach : Reach) (many : ℕ) (counts : List ℕ) → counts ≡ [] → AreKeyCounts reach 0 many 0 counts
+pub no_bank_counted : (reach : PathReach) (many : ℕ) (counts : List ℕ) → counts ≡ [] → AreKeyCounts reach 0 many 0 counts
 no_bank_counted reach many counts none = record { long = ap length none; each = λ bank inside. elim (never bank inside) [ ] }
   where
     never : (n : ℕ) → n < 0 → ⊥
     never n e = omega (arith, e)
 
 -- a sum, by these and the parts of a carrier
-abbrev sum_of : List Level → List Lane → (own : ℕ) → (evenly : Bool) → (banks : ℕ) → (sources : List ℕ) → (stride groups bank : ℕ) → ℕ
+abbrev sum_of : List CopyLevel → List BankDimension → (own : ℕ) → (evenly : Bool) → (banks : ℕ) → (sources : List ℕ) → (stride groups bank : ℕ) → ℕ
 sum_of levels lanes own evenly banks sources stride groups bank =
     sum_below groups (λ group. if evenly then largest (keys_of levels lanes own (group * stride) stride) banks else keys_of levels lanes own (group * stride) stride (slice_index sources bank))
 
-pub sums_alike : (r s : Reach) (c d : Carrier) (stride groups : ℕ) (sums : List ℕ) → ReachAlike r s → CarryAlike c d → AreGroupSums r c stride groups sums → AreGroupSums s d stride groups sums
+pub sums_alike : (r s : PathReach) (c d : Carrier) (stride groups : ℕ) (sums : List ℕ) → ReachAlike r s → CarryAlike c d → AreGroupSums r c stride groups sums → AreGroupSums s d stride groups sums
 sums_alike r s c d stride groups sums reaches carries are = record {
   long = are.long ∙ ap length carries.sources;
   each = λ bank inside.
@@ -59,15 +59,15 @@ sums_alike r s c d stride groups sums reaches carries are = record {
       ∙ ap (λ x. sum_of s.paths.levels.items s.lanes.items s.own d.evenly d.banks x stride groups bank) carries.sources)))));
 }
 
-pub sums_kept : (r : Reach) (c d : Carrier) (stride groups : ℕ) (sums : List ℕ) → CarryAlike c d → AreGroupSums r c stride groups sums → AreGroupSums r d stride groups sums
+pub sums_kept : (r : PathReach) (c d : Carrier) (stride groups : ℕ) (sums : List ℕ) → CarryAlike c d → AreGroupSums r c stride groups sums → AreGroupSums r d stride groups sums
 sums_kept r c d stride groups sums carries are = sums_alike r r c d stride groups sums (record { own = refl; levels = refl; lanes = refl }) carries are
 
-pub sums_again : (s : Sums) (reach : Reach) (carrier : Carrier) (stride groups : ℕ) → AreSumsOf s reach carrier stride groups → AreSums s → AreGroupSums reach carrier stride groups s.sums.items
+pub sums_again : (s : Sums) (reach : PathReach) (carrier : Carrier) (stride groups : ℕ) → AreSumsOf s reach carrier stride groups → AreSums s → AreGroupSums reach carrier stride groups s.sums.items
 sums_again s reach carrier stride groups alike are =
     subst (λ (n : ℕ). AreGroupSums reach carrier n groups s.sums.items) alike.same_stride
     (subst (λ (n : ℕ). AreGroupSums reach carrier s.stride n s.sums.items) alike.same_groups
     (sums_alike s.reach reach s.carrier carrier s.stride s.groups s.sums.items alike.reaches alike.carries are))
 
 -- those of no group
-pub no_group : (reach : Reach) (carrier : Carrier) (stride banks : ℕ) (sums : List ℕ) → banks ≡ length carrier.sources.items → sums ≡ replicate banks 0 → AreGroupSums reach carrier stride 0 sums
+pub no_group : (reach : PathReach) (carrier : Carrier) (stride banks : ℕ) (sums : List ℕ) → banks ≡ length carrier.sources.items → sums ≡ replicate banks 0 → AreGroupSums reach carrier stride 0 sums
 no_group reach carrier stride banks sums many none = record { long = ap length none ∙ (zeros_long banks ∙ many); each = λ bank inside. ap (λ l. slice_index l bank) none ∙ zero_at banks bank }

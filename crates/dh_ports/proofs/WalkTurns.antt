@@ -14,7 +14,7 @@ use Rattle.dh_events.specs.Noted.{all_seen}
 use Rattle.dh_ports.specs.declared.lasts.LastWrites.{LastWrites}
 use Rattle.dh_ports.specs.declared.levels.Levels.{Levels}
 use Rattle.dh_ports.specs.declared.levels.Step.TheVariants as step
-use Rattle.dh_ports.specs.declared.moves.Layout.{Layout}
+use Rattle.dh_ports.specs.declared.moves.ProgramLayout.{ProgramLayout}
 use Rattle.dh_ports.specs.declared.moves.Move.{Move}
 use Rattle.dh_ports.specs.declared.moves.Move.TheVariants as move
 use Rattle.dh_ports.specs.declared.sharing.Sharing.{Sharing}
@@ -105,7 +105,7 @@ module _ (xs : List PortEvent) (shared : List Bool) where
 -- The walk.
 
 -- so much is found of so many of these events, whatever is found of those behind them
-pub record WalksTo (p : Program) (layout : Layout) (events : List Event) (i : ℕ) (sharing : Sharing) (lasts : LastWrites) (levels : Levels) (after : Walked) : Type 0 where
+pub record WalksTo (p : Program) (layout : ProgramLayout) (events : List Event) (i : ℕ) (sharing : Sharing) (lasts : LastWrites) (levels : Levels) (after : Walked) : Type 0 where
   pub before : List Move
   pub whole : before ++ moves_from p (loops_listed layout.rounds.items) i (all_seen (drop i events)) ≡ moves_known p layout events
   pub within : AllByRecursion (IsMoveOf (length events)) before
@@ -114,7 +114,7 @@ pub record WalksTo (p : Program) (layout : Layout) (events : List Event) (i : �
   pub kept : KeptWhile after levels
   pub spent : (more : List Bool) → SpentSo (all_seen events) (sharing.flags.items ++ more) levels after (moves_from p (loops_listed layout.rounds.items) i (all_seen (drop i events))) (first_from (all_seen events) (sharing.flags.items ++ more) (bank_ports_in (table_of p)) (moves_known p layout events))
 
-module _ (p : Program) (layout : Layout) (events : List Event) where
+module _ (p : Program) (layout : ProgramLayout) (events : List Event) where
   pub walk_begins : (sharing : Sharing) (lasts : LastWrites) (levels : Levels) (ports : List ℕ) → IsShared events 0 sharing → LevelsKept levels → ((s : ℕ) → level_at levels s ≡ start (slice_index ports s)) → ports ≡ bank_ports_in (table_of p) → WalksTo p layout events 0 sharing lasts levels walked.Past
   walk_begins sharing lasts levels ports shared kept starts ports_are = record {
     before = [];

@@ -14,7 +14,7 @@ use Rattle.dh_ways.specs.Kept.{KeptLed, KeptWay}
 use Rattle.dh_ways.specs.Leading.{StepsLead}
 use Rattle.dh_ways.specs.Seen.{way_seen}
 use Rattle.dh_ports.specs.declared.carrying.Carrier.{Carrier}
-use Rattle.dh_ports.specs.declared.copies.Reach.{Reach}
+use Rattle.dh_ports.specs.declared.copies.PathReach.{PathReach}
 use Rattle.dh_ports.specs.declared.moves.Move.{Move}
 use Rattle.dh_ports.specs.Banks.{each_below}
 use Rattle.dh_ports.specs.Claims.{claims_from}
@@ -108,10 +108,10 @@ sum_below zero f = 0
 sum_below (suc n) f = sum_below n f + f n
 
 -- what so many groups of so many paths each carry to a bank
-abbrev pub group_sum : Reach → Carrier → (stride groups bank : ℕ) → ℕ
+abbrev pub group_sum : PathReach → Carrier → (stride groups bank : ℕ) → ℕ
 group_sum reach c stride groups bank = sum_below groups (λ group. carried_to c (key_count_from reach (group * stride) stride) bank)
 
-pub record AreGroupSums (reach : Reach) (c : Carrier) (stride groups : ℕ) (sums : List ℕ) : Type 0 where
+pub record AreGroupSums (reach : PathReach) (c : Carrier) (stride groups : ℕ) (sums : List ℕ) : Type 0 where
   pub long : length sums ≡ length c.sources.items
   pub each : (bank : ℕ) → bank < length c.sources.items → slice_index sums bank ≡ group_sum reach c stride groups bank
 

@@ -11,7 +11,7 @@ use Rattle.dh_events.specs.Accesses.{loops_listed}
 use Rattle.dh_events.specs.Noted.{all_seen}
 use Rattle.dh_base.specs.Limits.{most_copies}
 use Rattle.dh_ports.specs.declared.moves.Claimant.{Claimant}
-use Rattle.dh_ports.specs.declared.moves.Layout.{Layout}
+use Rattle.dh_ports.specs.declared.moves.ProgramLayout.{ProgramLayout}
 use Rattle.dh_ports.specs.declared.moves.Move.{Move}
 use Rattle.dh_ports.specs.declared.moves.Move.TheVariants as move
 use Rattle.dh_ports.specs.Claims.{claims_of, moves_from, source_of}
@@ -28,20 +28,20 @@ moves_of p loops place event.Next = move.Next ∷ []
 moves_of p loops place event.Ends = move.End ∷ []
 
 -- what all do, where the layout tells the loops round each
-abbrev pub moves_known : Program → Layout → List Event → List Move
+abbrev pub moves_known : Program → ProgramLayout → List Event → List Move
 moves_known p layout events = moves_from p (loops_listed layout.rounds.items) 0 (all_seen events)
 
 -- Of a program as the code knows it, where the layout tells the loops round each access.
 
 -- the claims of an access
-abbrev pub claims_by : Tree → Layout → Claimant → List Move
+abbrev pub claims_by : Tree → ProgramLayout → Claimant → List Move
 claims_by tree layout c = claims_of (program_seen tree) c.event (source_of (loops_listed layout.rounds.items c.round) c.writes c.access.now)
 
 -- what an event at a place does, and what all do
-abbrev pub moves_at : Tree → Layout → (place : ℕ) → Event → List Move
+abbrev pub moves_at : Tree → ProgramLayout → (place : ℕ) → Event → List Move
 moves_at tree layout place e = moves_of (program_seen tree) (loops_listed layout.rounds.items) place e
 
-abbrev pub moves_by : Tree → Layout → List Event → List Move
+abbrev pub moves_by : Tree → ProgramLayout → List Event → List Move
 moves_by tree layout events = moves_known (program_seen tree) layout events
 
 -- Copies.

@@ -14,24 +14,18 @@ use Rattle.dh_ways.specs.Stands.{hidden_of_program}
 use Rattle.dh_events.specs.declared.dependence.Scope.{Scope}
 use Rattle.dh_events.specs.declared.events.Event.{Event}
 use Rattle.dh_events.specs.declared.events.Event.TheVariants as event
-use Rattle.dh_ports.specs.declared.moves.Layout.{Layout}
+use Rattle.dh_ports.specs.declared.moves.ProgramLayout.{ProgramLayout}
 use Rattle.dh_events.specs.Accesses.{loops_listed}
 use Rattle.dh_ports.specs.Carriers.{AreEach}
 use Rattle.dh_ports.specs.Claims.{AreBases}
 use Rattle.dh_ports.specs.Copies.{copies_round}
 use Rattle.dh_events.specs.Rounds.{rounds_in, rounds_of}
 use Rattle.dh_events.specs.Scopes.{scope_at, scopes_in, AreScopes}
-use Rattle.dh_events.specs.Stages.{stages_in}
-use Rattle.dh_events.specs.Tables.{table_at}
 use Rattle.dh_base.specs.Limits.{most_copies}
 
 -- no loop is known
 abbrev pub no_rounds : ℕ → List Counter
 no_rounds id = []
-
--- the phases of a program's commands are counted so
-abbrev pub AreStagesOf : Program → (stages : List ℕ) → Type 0
-AreStagesOf p stages = table_at stages ≡ stages_in p.body (table_at [])
 
 -- the unrolled loops of a program are noted so
 abbrev pub AreRoundsOf : Program → List (Vec Counter Global) → Type 0
@@ -55,7 +49,7 @@ NotesViews ways hidden rounds old new =
 abbrev pub AllWaysLead : Program → Type 0
 AllWaysLead p = AllByRecursion (λ l. LeadsTo (memories_of p) l.way) (ways_of p)
 
-pub record IsLayout (p : Program) (layout : Layout) : Type 0 where
+pub record IsLayout (p : Program) (layout : ProgramLayout) : Type 0 where
   pub bases : AreBases (table_of p) layout.bases.items
   pub rounds : AreRoundsOf p layout.rounds.items
   pub scopes : AreScopesWhere p layout.rounds.items layout.scopes.items

@@ -1,8 +1,8 @@
 -- What is left of a slot while steps are taken, slot by slot.
 use Rattle.std.specs.Prelude.{◌≡◌, ℕ, ◌-◌, ◌==◌, if◌then◌else◌, List, [], ◌∷◌, length, reverse, min, slice_index}
 use Rattle.std.specs.List.{AllByRecursion}
-use Rattle.dh_ports.specs.declared.marks.Mark.{Mark}
-use Rattle.dh_ports.specs.declared.levels.Frame.{Frame}
+use Rattle.dh_ports.specs.declared.marks.SlotMark.{SlotMark}
+use Rattle.dh_ports.specs.declared.levels.PartFrame.{PartFrame}
 use Rattle.dh_ports.specs.declared.levels.Levels.{Levels}
 use Rattle.dh_ports.specs.declared.levels.Step.{Step}
 use Rattle.dh_ports.specs.declared.levels.Step.TheVariants as step
@@ -27,11 +27,11 @@ abbrev pub floor : ℕ → ℕ → Floor
 floor base low = record { base = base; low = low }
 
 -- the floors of frames from the inside
-abbrev pub floors_of : List Frame → (slot : ℕ) → (now : ℕ) → List Floor
+abbrev pub floors_of : List PartFrame → (slot : ℕ) → (now : ℕ) → List Floor
 floors_of [] slot now = []
 floors_of (f ∷ fs) slot now = floor (at_begin f.log.items slot now) (least f.lows.items slot (at_begin f.log.items slot now)) ∷ floors_of fs slot (at_begin f.log.items slot now)
 
-abbrev pub level_of : List ℕ → List Mark → List Mark → List Frame → (slot : ℕ) → Level
+abbrev pub level_of : List ℕ → List SlotMark → List SlotMark → List PartFrame → (slot : ℕ) → Level
 level_of left log lows outer slot =
     slot_level (slice_index left slot) (at_begin log slot (slice_index left slot)) (least lows slot (at_begin log slot (slice_index left slot))) (floors_of (reverse outer) slot (at_begin log slot (slice_index left slot)))
 
@@ -92,7 +92,7 @@ abbrev pub start : ℕ → Level
 start n = slot_level n n n []
 
 -- the marks are of slots
-pub record FrameKept (slots : ℕ) (f : Frame) : Type 0 where
+pub record FrameKept (slots : ℕ) (f : PartFrame) : Type 0 where
   pub log : AreSlotMarks slots f.log.items
   pub lows : AreSlotMarks slots f.lows.items
 

@@ -10,7 +10,7 @@ use Rattle.dh_events.specs.Incidents.{PortEvent}
 use Rattle.dh_events.specs.Noted.{all_seen}
 use Rattle.dh_ports.specs.declared.lasts.LastWrites.{LastWrites}
 use Rattle.dh_ports.specs.declared.levels.Levels.{Levels}
-use Rattle.dh_ports.specs.declared.moves.Layout.{Layout}
+use Rattle.dh_ports.specs.declared.moves.ProgramLayout.{ProgramLayout}
 use Rattle.dh_ports.specs.declared.moves.Move.{Move}
 use Rattle.dh_ports.specs.declared.sharing.Sharing.{Sharing}
 use Rattle.dh_ports.specs.declared.spending.Walked.{Walked}
@@ -42,7 +42,7 @@ abbrev pub SpendsToSoFar : List Event → (shared : List Bool) → (before : Wal
 SpendsToSoFar events shared before old ms after new = (more : List Bool) → SpendsTo (all_seen events) (shared ++ more) before old ms after new
 
 -- all is found of these events
-pub record EventsAreWalked (p : Program) (layout : Layout) (events : List Event) (sharing : Sharing) (lasts : LastWrites) (walked : Walked) : Type 0 where
+pub record EventsAreWalked (p : Program) (layout : ProgramLayout) (events : List Event) (sharing : Sharing) (lasts : LastWrites) (walked : Walked) : Type 0 where
   pub distinct : KeysAreDistinct sharing.classes
   pub shared : AreShared events sharing
   pub within : AllByRecursion (IsMoveOf (length events)) (moves_known p layout events)

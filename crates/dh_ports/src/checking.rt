@@ -5,6 +5,7 @@ ghost use Rattle.dh_tree.specs.Memories.{table_of};
 ghost use Rattle.dh_tree.specs.Seen.{program_seen};
 ghost use Rattle.dh_tree.specs.Shapes.{IsProgramTable};
 ghost use Rattle.dh_events.specs.Noted.{all_seen};
+ghost use Rattle.dh_events.specs.Stages.{AreStagesOf};
 ghost use Rattle.dh_ports.specs.Ahead.{IsAhead};
 ghost use Rattle.dh_ports.specs.EventMoves.{moves_by};
 ghost use Rattle.dh_ports.specs.Layouts.{AllWaysLead, AreRoundsOf, AreScopesNoted, HaveFewCopies, IsLayout};
@@ -18,8 +19,8 @@ use crate::lasts::LastWrites;
 use crate::laws::{
     incidents_tell_sites, late_reads_are_told, shared_reads_are_found, spent_ports_are_told,
 };
-use crate::moves::{Layout, all_moves, layout_of};
-use crate::nesting::nests_of;
+use crate::moves::{ProgramLayout, all_moves, layout_of};
+use crate::nesting::{nests_of, nests_with};
 use crate::ordering::keep_late;
 use crate::sharing::Sharing;
 use crate::spending::place_walked;
@@ -46,7 +47,7 @@ fn spent_at(place: Option<Place>) -> Option<Breach>
 fn keep_behind(
     alloc: Global,
     typed: &Typed,
-    layout: &Layout,
+    layout: &ProgramLayout,
     kept: &mut Option<Breach>,
     events: &[Event<'_>],
     lasts: &LastWrites,
@@ -97,17 +98,39 @@ fn first_among(
     Ok(kept)
 }
 
-/// The first breach of the rules on ports in a program's body, if there is one.
-fn first_breach(alloc: Global, typed: &Typed) -> Result<Option<Breach>, NoMemory>
+/// The first breach of the rules on ports in a program's body, if there is one, by what is noted of its commands.
+fn first_breach(alloc: Global, typed: &Typed, nests: Nests) -> Result<Option<Breach>, NoMemory>
     requires told { IsToldBefore (program_seen typed.now) }
+    requires stages { AreStagesOf (program_seen typed.now) nests.stages.items }
+    requires rounds { AreRoundsOf (program_seen typed.now) nests.rounds.items }
+    requires scopes { AreScopesNoted (program_seen typed.now) nests.rounds.items
+        nests.scopes.items }
     ensures { IfOk result (λ first. TellsFirst (program_seen typed.now) first) }
 {
     let body = &typed.tree().body;
-    let nests = nests_of(alloc, typed)?;
     let mut notes = Notes::for_commands(alloc, nests.stages.len())?;
     note_body(&mut notes, nests.stages.as_slice(), body)?;
     // the notes are dropped at one place: what comes of them is found in a function of its own
     first_among(alloc, typed, nests, notes.events.as_slice())
+}
+
+/// The same of a program of which nothing is noted yet.
+fn first_of(alloc: Global, typed: &Typed) -> Result<Option<Breach>, NoMemory>
+    requires told { IsToldBefore (program_seen typed.now) }
+    ensures { IfOk result (λ first. TellsFirst (program_seen typed.now) first) }
+{
+    let nests = nests_of(alloc, typed)?;
+    first_breach(alloc, typed, nests)
+}
+
+/// The same of a program whose phases are counted already.
+fn first_with(alloc: Global, typed: &Typed, stages: Vec<usize>) -> Result<Option<Breach>, NoMemory>
+    requires told { IsToldBefore (program_seen typed.now) }
+    requires counted { AreStagesOf (program_seen typed.now) stages.items }
+    ensures { IfOk result (λ first. TellsFirst (program_seen typed.now) first) }
+{
+    let nests = nests_with(alloc, typed, stages)?;
+    first_breach(alloc, typed, nests)
 }
 
 /// The answer for a program, by the first breach of the rules on ports, if there is one.
@@ -145,6 +168,21 @@ pub fn check_ports(alloc: Global, typed: Typed) -> Result<Accepted, PassFault>
     requires told { IsToldBefore (program_seen typed) }
     ensures { TellsPorts (program_seen typed) result }
 {
-    let first = first_breach(alloc, &typed);
+    let first = first_of(alloc, &typed);
+    judged(typed, first)
+}
+
+/// As `check_ports`, where it is known how many phases the commands have: by the number of each none, one straight
+/// phase, or others (2).
+///
+/// # Errors
+///
+/// Those of `check_ports`.
+pub fn check_counted(alloc: Global, typed: Typed, stages: Vec<usize>) -> Result<Accepted, PassFault>
+    requires told { IsToldBefore (program_seen typed) }
+    requires counted { AreStagesOf (program_seen typed) stages.items }
+    ensures { TellsPorts (program_seen typed) result }
+{
+    let first = first_with(alloc, &typed, stages);
     judged(typed, first)
 }

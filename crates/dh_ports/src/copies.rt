@@ -16,7 +16,7 @@ use std::alloc::Global;
 
 /// A loop as the number of a path tells its copy: `number / stride % factor`.
 #[derive(Clone, Copy, PartialEq, Eq)]
-pub struct Level {
+pub struct CopyLevel {
     /// The copies of the loop.
     factor: u64,
     /// The copies of the loops inside it.
@@ -27,7 +27,7 @@ pub struct Level {
 
 /// A dimension of more than one bank, as the number of a path tells its bank.
 #[derive(Clone, Copy, PartialEq, Eq)]
-pub struct Lane {
+pub struct BankDimension {
     /// The banks of the dimension.
     banks: u64,
     /// The banks of the dimensions behind it.
@@ -41,18 +41,18 @@ pub struct Lane {
 
 /// The loops round an access, and how many paths they have.
 #[derive(Drop)]
-pub struct Paths {
-    pub levels: Vec<Level>,
+pub struct AccessPaths {
+    pub levels: Vec<CopyLevel>,
     pub count: u64,
 }
 
 /// What an access reaches, by the numbers of its paths.
 #[derive(Drop)]
-pub struct Reach {
+pub struct PathReach {
     /// The loops round it.
-    pub paths: Paths,
+    pub paths: AccessPaths,
     /// The dimensions of what it names that tell its bank.
-    pub lanes: Vec<Lane>,
+    pub lanes: Vec<BankDimension>,
     /// The bank that it names itself; 0 where it has indices.
     pub own: u64,
 }
@@ -64,7 +64,7 @@ fn paths_in(
     loops: &[Counter],
     access: &Expr,
     writes: bool,
-) -> Result<Paths, NoMemory>
+) -> Result<AccessPaths, NoMemory>
     requires few { definitions.copies_round loops.now ≤ most_copies }
     ensures { IfOk result (λ paths. AreAccessPaths scopes.now loops.now access.now writes paths) }
 {
@@ -74,7 +74,7 @@ fn paths_in(
     for level in (0..loops.len()).rev() {
         let factor = loops[level].factor;
         let counts = access_depends(scopes, level, access, writes);
-        levels.push(Level {
+        levels.push(CopyLevel {
             factor,
             stride: count,
             share: if counts { keys } else { 0 },
@@ -85,11 +85,11 @@ fn paths_in(
         }
     }
     levels.reverse();
-    Ok(Paths { levels, count })
+    Ok(AccessPaths { levels, count })
 }
 
 /// The copy of a loop at the path of a number.
-fn copy_at(level: Level, number: u64) -> u64
+fn copy_at(level: CopyLevel, number: u64) -> u64
     requires spread { IsSpreadLevel level }
     ensures { result ≡ (number / level.stride) % level.factor }
 {
@@ -97,7 +97,7 @@ fn copy_at(level: Level, number: u64) -> u64
 }
 
 /// The number of the key of the path of a number.
-pub fn key_at(levels: &[Level], number: u64) -> u64
+pub fn key_at(levels: &[CopyLevel], number: u64) -> u64
     requires spread { AllByRecursion IsSpreadLevel levels.now }
     requires few { definitions.HasFewKeys levels.now }
     ensures { result ≡ key_of_levels levels.now number }
@@ -116,7 +116,7 @@ fn lanes_of(
     loops: &[Counter],
     dims: &[Dim],
     indices: &[Expr],
-) -> Result<Vec<Lane>, NoMemory>
+) -> Result<Vec<BankDimension>, NoMemory>
     requires dims { AllByRecursion IsDim dims.now }
     requires few { banks_of dims.now ≤ most_banks }
     ensures { IfOk result (λ lanes. AreIndexLanes typed.now loops.now dims.now indices.now lanes.items) }
@@ -127,7 +127,7 @@ fn lanes_of(
         let banks = dims[i].banks;
         if i < indices.len() && banks > 1 {
             let start = start_of(typed, &indices[i]);
-            lanes.push(Lane {
+            lanes.push(BankDimension {
                 banks,
                 times,
                 low: start.low,
@@ -141,7 +141,7 @@ fn lanes_of(
 }
 
 /// The bank that lanes tell at the path of a number.
-pub fn bank_at(lanes: &[Lane], levels: &[Level], number: u64) -> u64
+pub fn bank_at(lanes: &[BankDimension], levels: &[CopyLevel], number: u64) -> u64
     requires spread { AllByRecursion IsSpreadLevel levels.now }
     requires few { definitions.HasFewBanks lanes.now }
     ensures { result ≡ definitions.bank_of_lanes levels.now lanes.now number }
@@ -174,7 +174,11 @@ pub struct Copied<'b> {
 }
 
 /// The dimensions of what an access names as numbers of paths tell its bank, and the bank that it names itself.
-fn reach_of(alloc: Global, typed: &Typed, copied: Copied<'_>) -> Result<(Vec<Lane>, u64), NoMemory>
+fn reach_of(
+    alloc: Global,
+    typed: &Typed,
+    copied: Copied<'_>,
+) -> Result<(Vec<BankDimension>, u64), NoMemory>
     requires dims { AllByRecursion IsDim copied.dims.now }
     requires few { banks_of copied.dims.now ≤ most_banks }
     ensures { IfOk result (λ r. IsReachOf typed.now copied.entry r.0.items r.1) }
@@ -199,7 +203,7 @@ pub fn reach_in(
     typed: &Typed,
     scopes: &[Option<Scope>],
     copied: Copied<'_>,
-) -> Result<Reach, NoMemory>
+) -> Result<PathReach, NoMemory>
     requires dims { AllByRecursion IsDim copied.dims.now }
     requires few { banks_of copied.dims.now ≤ most_banks }
     requires copies { definitions.copies_round copied.loops.now ≤ most_copies }
@@ -207,11 +211,11 @@ pub fn reach_in(
 {
     let paths = paths_in(alloc, scopes, copied.loops, copied.access, copied.writes)?;
     let (lanes, own) = reach_of(alloc, typed, copied)?;
-    Ok(Reach { paths, lanes, own })
+    Ok(PathReach { paths, lanes, own })
 }
 
 /// How many paths there are inside so many of these loops, of which all have so many paths.
-pub fn stride_of(levels: &[Level], loops: u32, count: u64) -> u64
+pub fn stride_of(levels: &[CopyLevel], loops: u32, count: u64) -> u64
     ensures { result ≡ definitions.stride_in levels.now loops count }
 {
     let mut left = loops;

@@ -11,8 +11,8 @@ ghost use Rattle.dh_ports.specs.Tallies.{IsReadyTally, KeepsKeys};
 ghost use Rattle.dh_events.specs.Scopes.{AreScopes};
 ghost use Rattle.dh_base.specs.Limits.{most_copies};
 
-use crate::copies::{Copied, Reach, bank_at, key_at, reach_in};
-use crate::keeping::Tally;
+use crate::copies::{Copied, PathReach, bank_at, key_at, reach_in};
+use crate::keeping::KeyTally;
 use dh_base::NoMemory;
 use dh_events::{Scope, get_at, set_at};
 use dh_tree::Typed;
@@ -127,7 +127,7 @@ pub fn count_paths(
     seen: &mut Seen,
     counts: &mut Vec<usize>,
     banks: u64,
-    reach: &Reach,
+    reach: &PathReach,
     from: u64,
     many: u64,
 ) -> Result<(), NoMemory>
@@ -156,7 +156,12 @@ pub fn count_paths(
 
 /// Keeps for each of so many banks with how many keys the paths of an access reach it. Where the last access reached
 /// alike, its counts are those.
-fn keep_counts(alloc: Global, tally: &mut Tally, reach: Reach, banks: u64) -> Result<(), NoMemory>
+fn keep_counts(
+    alloc: Global,
+    tally: &mut KeyTally,
+    reach: PathReach,
+    banks: u64,
+) -> Result<(), NoMemory>
     requires tells { 1 ≤ reach.paths.count → TellsPaths reach }
     requires range { reach.paths.count ≤ most_copies }
     requires few { banks ≤ most_banks }
@@ -181,7 +186,7 @@ pub fn keys_reaching(
     alloc: Global,
     typed: &Typed,
     scopes: &[Option<Scope>],
-    tally: &mut Tally,
+    tally: &mut KeyTally,
     copied: Copied<'_>,
 ) -> Result<(), NoMemory>
     requires dims { AllByRecursion IsDim copied.dims.now }

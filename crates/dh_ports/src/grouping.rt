@@ -16,9 +16,9 @@ ghost use Rattle.dh_ports.specs.Copies.{copies_round, AreKeyCounts, IsPast, Tell
 ghost use Rattle.dh_ports.specs.Tallies.{IsReadyTally, KeepsCharges};
 
 use crate::carrying::{Carrier, carried_at};
-use crate::copies::{Copied, Reach, reach_in, stride_of};
+use crate::copies::{Copied, PathReach, reach_in, stride_of};
 use crate::counting::{Seen, clear, count_paths, no_counts};
-use crate::keeping::Tally;
+use crate::keeping::KeyTally;
 use dh_base::NoMemory;
 use dh_events::Scope;
 use dh_tree::Typed;
@@ -41,7 +41,7 @@ fn count_group(
     seen: &mut Seen,
     counts: &mut Vec<usize>,
     banks: u64,
-    reach: &Reach,
+    reach: &PathReach,
     from: u64,
     many: u64,
 ) -> Result<(), NoMemory>
@@ -78,7 +78,7 @@ fn add_carried(sums: &mut [usize], counts: &[usize], carrier: &Carrier)
 fn carried_sums(
     alloc: Global,
     seen: &mut Seen,
-    reach: &Reach,
+    reach: &PathReach,
     carrier: &Carrier,
     stride: u64,
     groups: u64,
@@ -107,8 +107,8 @@ fn carried_sums(
 /// reached alike, its sums are those.
 fn keep_sums(
     alloc: Global,
-    tally: &mut Tally,
-    reach: Reach,
+    tally: &mut KeyTally,
+    reach: PathReach,
     carrier: &Carrier,
     stride: u64,
     groups: u64,
@@ -134,7 +134,7 @@ pub fn keys_through(
     alloc: Global,
     typed: &Typed,
     scopes: &[Option<Scope>],
-    tally: &mut Tally,
+    tally: &mut KeyTally,
     way: &WayRef<'_>,
     carrier: &Carrier,
     copied: Copied<'_>,

@@ -7,16 +7,16 @@ ghost use Rattle.dh_ports.specs.Copies.{AreKeyCounts, IsPast};
 ghost use Rattle.dh_ports.specs.Tallies.{AreCountsKept, AreCountsOf, AreSums, AreSumsOf, CarryAlike, IsReadyTally, ReachAlike};
 
 use crate::carrying::Carrier;
-use crate::copies::{Lane, Level, Paths, Reach};
+use crate::copies::{AccessPaths, BankDimension, CopyLevel, PathReach};
 use crate::counting::Seen;
 use dh_base::NoMemory;
 use std::alloc::Global;
 
 /// With how many keys the copies of an access reach the banks of what it names.
 #[derive(Drop)]
-pub struct Counts {
+pub struct BankKeyCounts {
     /// What the access reaches.
-    reach: Reach,
+    reach: PathReach,
     /// Its paths.
     many: u64,
     /// The banks.
@@ -29,7 +29,7 @@ pub struct Counts {
 #[derive(Drop)]
 pub struct Sums {
     /// What the access reaches.
-    reach: Reach,
+    reach: PathReach,
     /// How its charges are carried.
     carrier: Carrier,
     /// The paths of a group.
@@ -42,24 +42,24 @@ pub struct Sums {
 
 /// What is kept while accesses are counted.
 #[derive(Drop)]
-pub struct Tally {
+pub struct KeyTally {
     /// The pairs that were seen.
     pub seen: Seen,
     /// The counts of the last access of a memory itself.
-    pub direct: Counts,
+    pub direct: BankKeyCounts,
     /// The sums of the last access through views.
     pub last: Sums,
 }
 
 /// Whether levels are the same.
-fn are_levels(one: &[Level], other: &[Level]) -> bool
+fn are_levels(one: &[CopyLevel], other: &[CopyLevel]) -> bool
     ensures { IsTrue result → one.now ≡ other.now }
 {
     one == other
 }
 
 /// Whether lanes are the same.
-fn are_lanes(one: &[Lane], other: &[Lane]) -> bool
+fn are_lanes(one: &[BankDimension], other: &[BankDimension]) -> bool
     ensures { IsTrue result → one.now ≡ other.now }
 {
     one == other
@@ -73,7 +73,7 @@ fn are_numbers(one: &[usize], other: &[usize]) -> bool
 }
 
 /// Whether two accesses reach the same by the numbers of their paths.
-fn reach_alike(one: &Reach, other: &Reach) -> bool
+fn reach_alike(one: &PathReach, other: &PathReach) -> bool
     ensures { IsTrue result → ReachAlike one.now other.now }
 {
     one.own == other.own
@@ -104,9 +104,9 @@ fn same_carrier(alloc: Global, carrier: &Carrier) -> Result<Carrier, NoMemory>
 }
 
 /// What an access reaches that has no path.
-fn no_reach(alloc: Global) -> Reach {
-    Reach {
-        paths: Paths {
+fn no_reach(alloc: Global) -> PathReach {
+    PathReach {
+        paths: AccessPaths {
             levels: Vec::new(alloc),
             count: 0,
         },
@@ -115,14 +115,14 @@ fn no_reach(alloc: Global) -> Reach {
     }
 }
 
-impl Counts {
+impl BankKeyCounts {
     /// Those of no path on no bank.
-    fn new(alloc: Global) -> Counts
+    fn new(alloc: Global) -> BankKeyCounts
         ensures { AreCountsKept result }
     {
         let reach = no_reach(alloc);
         let counts = Vec::new(alloc);
-        Counts {
+        BankKeyCounts {
             reach,
             many: 0,
             banks: 0,
@@ -131,7 +131,7 @@ impl Counts {
     }
 
     /// Whether they are those of so many paths that reach so, on so many banks.
-    pub fn are_of(&self, reach: &Reach, many: u64, banks: u64) -> bool
+    pub fn are_of(&self, reach: &PathReach, many: u64, banks: u64) -> bool
         ensures { IsTrue result → AreCountsOf self.now reach.now many banks }
     {
         self.many == many && self.banks == banks && reach_alike(&self.reach, reach)
@@ -160,7 +160,7 @@ impl Sums {
     }
 
     /// Whether they are those of so many groups of so many paths that reach so, carried so.
-    pub fn are_of(&self, reach: &Reach, carrier: &Carrier, stride: u64, groups: u64) -> bool
+    pub fn are_of(&self, reach: &PathReach, carrier: &Carrier, stride: u64, groups: u64) -> bool
         ensures { IsTrue result → AreSumsOf self.now reach.now carrier.now stride groups }
     {
         self.stride == stride
@@ -170,27 +170,27 @@ impl Sums {
     }
 }
 
-impl Tally {
+impl KeyTally {
     /// Nothing was counted.
-    pub fn new(alloc: Global) -> Tally
+    pub fn new(alloc: Global) -> KeyTally
         ensures { IsReadyTally result }
     {
-        Tally {
+        KeyTally {
             seen: Seen::new(alloc),
-            direct: Counts::new(alloc),
+            direct: BankKeyCounts::new(alloc),
             last: Sums::new(alloc),
         }
     }
 
     /// Keeps counts in the place of the last ones.
-    pub fn keep_direct(&mut self, reach: Reach, many: u64, banks: u64, counts: Vec<usize>)
+    pub fn keep_direct(&mut self, reach: PathReach, many: u64, banks: u64, counts: Vec<usize>)
         requires are { AreKeyCounts reach 0 many banks counts.items }
         requires past { IsPast self.old.seen }
         requires kept { AreSums self.old.last }
         ensures counts { self.new.direct.counts.items ≡ counts.items }
         ensures past { IsReadyTally self.new }
     {
-        self.direct = Counts {
+        self.direct = BankKeyCounts {
             reach,
             many,
             banks,
@@ -202,7 +202,7 @@ impl Tally {
     pub fn keep(
         &mut self,
         alloc: Global,
-        reach: Reach,
+        reach: PathReach,
         carrier: &Carrier,
         stride: u64,
         groups: u64,

@@ -3,7 +3,7 @@
 ghost use Rattle.std.specs.Prelude.{◌≡◌, [], ℕ, ◌≤◌, ◌+◌, IfOk, length, slice_index};
 ghost use Rattle.dh_ports.specs.Levels.{level_at, start, taken, begun, kept_back, gone_back, advance, left_before, LevelsKept, SettlesLevels, Turns};
 
-use crate::marks::{Mark, lower, note_lows, undo};
+use crate::marks::{SlotMark, lower, note_lows, undo};
 use dh_base::NoMemory;
 use std::alloc::Global;
 use std::mem;
@@ -32,11 +32,11 @@ pub enum Step {
 
 /// What is noted of the parts round the present one.
 #[derive(Drop)]
-pub struct Frame {
+pub struct PartFrame {
     /// What was left before each change in the part.
-    pub log: Vec<Mark>,
+    pub log: Vec<SlotMark>,
     /// What the parts before it left.
-    pub lows: Vec<Mark>,
+    pub lows: Vec<SlotMark>,
 }
 
 /// What is left of each slot, with what is noted of the present part and of those round it.
@@ -45,28 +45,28 @@ pub struct Levels {
     /// What is left.
     pub left: Vec<usize>,
     /// What was left before each change in the present part.
-    pub log: Vec<Mark>,
+    pub log: Vec<SlotMark>,
     /// What the parts beside it and before it left.
-    pub lows: Vec<Mark>,
+    pub lows: Vec<SlotMark>,
     /// The parts round it, from the outside.
-    pub outer: Vec<Frame>,
+    pub outer: Vec<PartFrame>,
     /// The lists of parts that ended, for parts to come: what stands in them counts for nothing.
-    pub spare: Vec<Frame>,
+    pub spare: Vec<PartFrame>,
 }
 
 /// The lists of a part of which nothing is noted: those of one that ended, where there are some.
-fn blank(alloc: Global, spare: &mut Vec<Frame>) -> Frame
+fn blank(alloc: Global, spare: &mut Vec<PartFrame>) -> PartFrame
     ensures log { result.log.items ≡ [] }
     ensures lows { result.lows.items ≡ [] }
 {
     match spare.pop() {
         Some(frame) => {
-            let Frame { mut log, mut lows } = frame;
+            let PartFrame { mut log, mut lows } = frame;
             log.clear();
             lows.clear();
-            Frame { log, lows }
+            PartFrame { log, lows }
         }
-        None => Frame {
+        None => PartFrame {
             log: Vec::new(alloc),
             lows: Vec::new(alloc),
         },
@@ -99,7 +99,7 @@ impl Levels {
         if slot < self.left.len() {
             let left = self.left[slot];
             if left > 0 {
-                self.log.push(Mark { slot, left })?;
+                self.log.push(SlotMark { slot, left })?;
                 self.left[slot] = left.saturating_sub(takes);
             }
         }
@@ -113,10 +113,10 @@ impl Levels {
         ensures kept { IfOk result (λ _. LevelsKept self.new) }
         ensures begun { IfOk result (λ _. Turns self.old self.new (λ s l. begun l)) }
     {
-        let Frame { log, lows } = blank(alloc, &mut self.spare);
+        let PartFrame { log, lows } = blank(alloc, &mut self.spare);
         let outer_log = mem::replace(&mut self.log, log);
         let outer_lows = mem::replace(&mut self.lows, lows);
-        self.outer.push(Frame {
+        self.outer.push(PartFrame {
             log: outer_log,
             lows: outer_lows,
         })?;
@@ -146,11 +146,11 @@ impl Levels {
         let Some(frame) = self.outer.pop() else {
             return Ok(());
         };
-        let Frame { mut log, lows } = frame;
+        let PartFrame { mut log, lows } = frame;
         lower(&mut self.left, self.lows.as_slice(), &mut log)?;
         let ended_log = mem::replace(&mut self.log, log);
         let ended_lows = mem::replace(&mut self.lows, lows);
-        self.spare.push(Frame {
+        self.spare.push(PartFrame {
             log: ended_log,
             lows: ended_lows,
         })?;
@@ -169,10 +169,10 @@ impl Levels {
             self.log.clear();
             return Ok(());
         };
-        let Frame { log, lows } = frame;
+        let PartFrame { log, lows } = frame;
         let ended_log = mem::replace(&mut self.log, log);
         let ended_lows = mem::replace(&mut self.lows, lows);
-        self.spare.push(Frame {
+        self.spare.push(PartFrame {
             log: ended_log,
             lows: ended_lows,
         })?;

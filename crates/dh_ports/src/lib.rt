@@ -31,7 +31,7 @@ mod walking;
 pub use accepted::Accepted;
 pub use banks::{bank_count, entity_of, residue_of_copy};
 pub use carrying::{Carrier, carries};
-pub use checking::check_ports;
+pub use checking::{check_counted, check_ports};
 pub use laws::port_breaches_are_one;
 pub use leading::carriers_of;
 pub use nesting::nests_of;

@@ -7,7 +7,7 @@ use std::alloc::AllocFailed;
 
 /// How much of a slot was left.
 #[derive(Clone, Copy)]
-pub struct Mark {
+pub struct SlotMark {
     /// The slot's number.
     pub slot: usize,
     /// What was left.
@@ -29,7 +29,7 @@ fn smaller(one: usize, other: usize) -> usize
 }
 
 /// What a mark says was left, where it is of a slot.
-fn left_if(mark: Mark, slot: usize) -> Option<usize>
+fn left_if(mark: SlotMark, slot: usize) -> Option<usize>
     ensures { LeftIf mark slot result }
 {
     if same(mark.slot, slot) {
@@ -40,7 +40,7 @@ fn left_if(mark: Mark, slot: usize) -> Option<usize>
 }
 
 /// The mark at a place.
-fn mark_at(marks: &[Mark], place: usize) -> Mark
+fn mark_at(marks: &[SlotMark], place: usize) -> SlotMark
     requires there { place < length marks.now }
     ensures { slice_get marks.now place ≡ Some result }
 {
@@ -48,7 +48,7 @@ fn mark_at(marks: &[Mark], place: usize) -> Mark
 }
 
 /// What the mark at a place says was left, where one stands there that is of a slot.
-fn left_at(marks: &[Mark], place: usize, slot: usize) -> Option<usize>
+fn left_at(marks: &[SlotMark], place: usize, slot: usize) -> Option<usize>
     ensures { LeftAt marks.now place slot result }
 {
     if place < marks.len() {
@@ -59,7 +59,7 @@ fn left_at(marks: &[Mark], place: usize, slot: usize) -> Option<usize>
 }
 
 /// Puts a mark in the place of another one.
-fn set_slice(marks: &mut [Mark], place: usize, mark: Mark)
+fn set_slice(marks: &mut [SlotMark], place: usize, mark: SlotMark)
     requires there { place < length marks.old }
     ensures { marks.new ≡ slice_set marks.old place mark }
 {
@@ -67,7 +67,7 @@ fn set_slice(marks: &mut [Mark], place: usize, mark: Mark)
 }
 
 /// `set_slice` of a vector.
-fn set_mark(marks: &mut Vec<Mark>, place: usize, mark: Mark)
+fn set_mark(marks: &mut Vec<SlotMark>, place: usize, mark: SlotMark)
     requires there { place < length marks.old.items }
     ensures { marks.new.items ≡ slice_set marks.old.items place mark }
 {
@@ -75,7 +75,7 @@ fn set_mark(marks: &mut Vec<Mark>, place: usize, mark: Mark)
 }
 
 /// Adds a mark.
-fn push_mark(marks: &mut Vec<Mark>, mark: Mark) -> Result<(), AllocFailed<Mark>>
+fn push_mark(marks: &mut Vec<SlotMark>, mark: SlotMark) -> Result<(), AllocFailed<SlotMark>>
     ensures { OnOk result (marks.new.items ≡ marks.old.items ++ mark ∷ []) }
 {
     marks.push(mark)?;
@@ -84,7 +84,11 @@ fn push_mark(marks: &mut Vec<Mark>, mark: Mark) -> Result<(), AllocFailed<Mark>>
 
 /// Adds a low, or lowers the one at a place, where it is of the same slot: parts that are alike note their lows in one
 /// order, and need those of one part.
-fn note_low(lows: &mut Vec<Mark>, place: usize, low: Mark) -> Result<(), AllocFailed<Mark>>
+fn note_low(
+    lows: &mut Vec<SlotMark>,
+    place: usize,
+    low: SlotMark,
+) -> Result<(), AllocFailed<SlotMark>>
     ensures { OnOk result (NotesLow lows.old.items lows.new.items low) }
 {
     let Some(before) = left_at(lows.as_slice(), place, low.slot) else {
@@ -92,16 +96,16 @@ fn note_low(lows: &mut Vec<Mark>, place: usize, low: Mark) -> Result<(), AllocFa
     };
     let left = smaller(before, low.left);
     let slot = low.slot;
-    set_mark(lows, place, Mark { slot, left });
+    set_mark(lows, place, SlotMark { slot, left });
     Ok(())
 }
 
 /// Notes what is now left of each slot of a log.
 pub fn note_lows(
     left: &[usize],
-    log: &[Mark],
-    lows: &mut Vec<Mark>,
-) -> Result<(), AllocFailed<Mark>>
+    log: &[SlotMark],
+    lows: &mut Vec<SlotMark>,
+) -> Result<(), AllocFailed<SlotMark>>
     requires inside { AreSlotMarks (length left.now) log.now }
     ensures { IfOk result (λ _. NotesLows left.now log.now lows.old.items lows.new.items) }
 {
@@ -110,7 +114,7 @@ pub fn note_lows(
         note_low(
             lows,
             place,
-            Mark {
+            SlotMark {
                 slot: mark.slot,
                 left: left[mark.slot],
             },
@@ -121,7 +125,7 @@ pub fn note_lows(
 }
 
 /// Gives each slot what a log says was left at its begin.
-fn undo_slice(left: &mut [usize], log: &[Mark])
+fn undo_slice(left: &mut [usize], log: &[SlotMark])
     requires inside { AreSlotMarks (length left.old) log.now }
     ensures long { length left.new ≡ length left.old }
     ensures begun { AreBegun log.now left.old left.new }
@@ -134,9 +138,9 @@ fn undo_slice(left: &mut [usize], log: &[Mark])
 /// Lowers what is left to the least of the lows, and logs what was left.
 fn lower_slice(
     left: &mut [usize],
-    lows: &[Mark],
-    log: &mut Vec<Mark>,
-) -> Result<(), AllocFailed<Mark>>
+    lows: &[SlotMark],
+    log: &mut Vec<SlotMark>,
+) -> Result<(), AllocFailed<SlotMark>>
     requires inside { AreSlotMarks (length left.old) lows.now }
     ensures long { length left.new ≡ length left.old }
     ensures lowered { IfOk result (λ _. AreLowered lows.now left.old left.new) }
@@ -147,7 +151,7 @@ fn lower_slice(
     for low in lows {
         let now = left[low.slot];
         if low.left < now {
-            log.push(Mark {
+            log.push(SlotMark {
                 slot: low.slot,
                 left: now,
             })?;
@@ -158,7 +162,7 @@ fn lower_slice(
 }
 
 /// `undo_slice` of a vector.
-pub fn undo(left: &mut Vec<usize>, log: &[Mark])
+pub fn undo(left: &mut Vec<usize>, log: &[SlotMark])
     requires inside { AreSlotMarks (length left.old.items) log.now }
     ensures long { length left.new.items ≡ length left.old.items }
     ensures begun { AreBegun log.now left.old.items left.new.items }
@@ -169,9 +173,9 @@ pub fn undo(left: &mut Vec<usize>, log: &[Mark])
 /// `lower_slice` of a vector.
 pub fn lower(
     left: &mut Vec<usize>,
-    lows: &[Mark],
-    log: &mut Vec<Mark>,
-) -> Result<(), AllocFailed<Mark>>
+    lows: &[SlotMark],
+    log: &mut Vec<SlotMark>,
+) -> Result<(), AllocFailed<SlotMark>>
     requires inside { AreSlotMarks (length left.old.items) lows.now }
     ensures long { length left.new.items ≡ length left.old.items }
     ensures lowered { IfOk result (λ _. AreLowered lows.now left.old.items left.new.items) }

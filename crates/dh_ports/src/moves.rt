@@ -23,7 +23,7 @@ use crate::carrying::{Carrier, carries};
 use crate::copies::Copied;
 use crate::counting::keys_reaching;
 use crate::grouping::keys_through;
-use crate::keeping::Tally;
+use crate::keeping::KeyTally;
 use crate::leading::carriers_of;
 use dh_base::NoMemory;
 use dh_events::{Event, Nests, Scope, loops_round, note_ways};
@@ -63,7 +63,7 @@ pub struct Run {
 
 /// What is known of a program's loops, memories and views.
 #[derive(Drop)]
-pub struct Layout {
+pub struct ProgramLayout {
     /// For each memory the number of its first bank among all banks, and last the number of all banks.
     pub bases: Vec<usize>,
     /// By the number of each unrolled loop the unrolled loops round it, and itself.
@@ -95,7 +95,7 @@ fn declare_views(
 }
 
 /// The layout of a program of which this is noted.
-pub fn layout_of(alloc: Global, typed: &Typed, nests: Nests) -> Result<Layout, NoMemory>
+pub fn layout_of(alloc: Global, typed: &Typed, nests: Nests) -> Result<ProgramLayout, NoMemory>
     requires table { IsProgramTable (table_of (program_seen typed.now)) }
     requires leads { AllWaysLead (program_seen typed.now) }
     requires few { HasFewWays (program_seen typed.now) }
@@ -114,7 +114,7 @@ pub fn layout_of(alloc: Global, typed: &Typed, nests: Nests) -> Result<Layout, N
     let carriers = carriers_of(alloc, &ways)?;
     let variables = hidden.as_slice();
     declare_views(rounds.as_slice(), &mut scopes, &ways, variables)?;
-    Ok(Layout {
+    Ok(ProgramLayout {
         bases,
         rounds,
         scopes,
@@ -384,8 +384,8 @@ struct Claimant<'b> {
 fn claim_memory(
     alloc: Global,
     typed: &Typed,
-    layout: &Layout,
-    tally: &mut Tally,
+    layout: &ProgramLayout,
+    tally: &mut KeyTally,
     moves: &mut Vec<Run>,
     memory: usize,
     claimant: Claimant<'_>,
@@ -427,8 +427,8 @@ fn claim_memory(
 fn claim_view(
     alloc: Global,
     typed: &Typed,
-    layout: &Layout,
-    tally: &mut Tally,
+    layout: &ProgramLayout,
+    tally: &mut KeyTally,
     moves: &mut Vec<Run>,
     way: &WayRef<'_>,
     carrier: &Carrier,
@@ -473,8 +473,8 @@ fn claim_view(
 fn claim_led(
     alloc: Global,
     typed: &Typed,
-    layout: &Layout,
-    tally: &mut Tally,
+    layout: &ProgramLayout,
+    tally: &mut KeyTally,
     moves: &mut Vec<Run>,
     entity: Option<u32>,
     claimant: Claimant<'_>,
@@ -511,8 +511,8 @@ fn claim_led(
 fn claim(
     alloc: Global,
     typed: &Typed,
-    layout: &Layout,
-    tally: &mut Tally,
+    layout: &ProgramLayout,
+    tally: &mut KeyTally,
     moves: &mut Vec<Run>,
     claimant: Claimant<'_>,
 ) -> Result<(), NoMemory>
@@ -537,8 +537,8 @@ fn claim(
 pub fn move_banks(
     alloc: Global,
     typed: &Typed,
-    layout: &Layout,
-    tally: &mut Tally,
+    layout: &ProgramLayout,
+    tally: &mut KeyTally,
     moves: &mut Vec<Run>,
     place: usize,
     event: Event<'_>,
@@ -578,7 +578,7 @@ pub fn move_banks(
 pub fn all_moves(
     alloc: Global,
     typed: &Typed,
-    layout: &Layout,
+    layout: &ProgramLayout,
     events: &[Event<'_>],
 ) -> Result<Vec<Run>, NoMemory>
     requires table { IsProgramTable (table_of (program_seen typed.now)) }
@@ -590,7 +590,7 @@ pub fn all_moves(
 {
     // most events come to one run at most
     let mut moves = Vec::with_capacity(alloc, events.len())?;
-    let mut tally = Tally::new(alloc);
+    let mut tally = KeyTally::new(alloc);
     for event in 0..events.len() {
         move_banks(
             alloc,

@@ -2,7 +2,8 @@
 
 ghost use Rattle.std.specs.Prelude.{IfOk};
 ghost use Rattle.dh_tree.specs.Seen.{program_seen};
-ghost use Rattle.dh_ports.specs.Layouts.{AreRoundsOf, AreScopesNoted, AreStagesOf};
+ghost use Rattle.dh_events.specs.Stages.{AreStagesOf};
+ghost use Rattle.dh_ports.specs.Layouts.{AreRoundsOf, AreScopesNoted};
 
 use dh_base::NoMemory;
 use dh_events::{Nests, note_nests, note_stages};
@@ -27,4 +28,26 @@ pub fn nests_of(alloc: Global, typed: &Typed) -> Result<Nests, NoMemory>
     }
     note_nests(alloc, &mut nests, &[], 0, body)?;
     Ok(nests)
+}
+
+/// The same of a program whose phases are counted already.
+pub(crate) fn nests_with(
+    alloc: Global,
+    typed: &Typed,
+    stages: Vec<usize>,
+) -> Result<Nests, NoMemory>
+    requires counted { AreStagesOf (program_seen typed.now) stages.items }
+    ensures stages { IfOk result (λ nests. AreStagesOf (program_seen typed.now)
+        nests.stages.items) }
+    ensures rounds { IfOk result (λ nests. AreRoundsOf (program_seen typed.now)
+        nests.rounds.items) }
+    ensures scopes { IfOk result (λ nests. AreScopesNoted (program_seen typed.now)
+        nests.rounds.items nests.scopes.items) }
+{
+    if typed.has_single_loops() {
+        let mut nests = Nests::new(alloc);
+        nests.stages = stages;
+        return Ok(nests);
+    }
+    nests_of(alloc, typed)
 }

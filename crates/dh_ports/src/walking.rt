@@ -10,10 +10,10 @@ ghost use Rattle.dh_ports.specs.SharedSoFar.{IsShared};
 ghost use Rattle.dh_ports.specs.Walks.{EventsAreWalked};
 
 use crate::banks::bank_ports;
-use crate::keeping::Tally;
+use crate::keeping::KeyTally;
 use crate::lasts::{LastWrites, note_runs};
 use crate::levels::Levels;
-use crate::moves::{Layout, move_banks};
+use crate::moves::{ProgramLayout, move_banks};
 use crate::sharing::Sharing;
 use crate::spending::{Walked, spend_behind};
 use dh_base::NoMemory;
@@ -25,7 +25,7 @@ use std::alloc::Global;
 pub fn walk(
     alloc: Global,
     typed: &Typed,
-    layout: &Layout,
+    layout: &ProgramLayout,
     sharing: &mut Sharing,
     lasts: &mut LastWrites,
     events: &[Event<'_>],
@@ -41,7 +41,7 @@ pub fn walk(
     let ports = bank_ports(alloc, typed.memories().as_slice())?;
     let mut levels = Levels::new(alloc, ports);
     let mut walked = Walked::Past;
-    let mut tally = Tally::new(alloc);
+    let mut tally = KeyTally::new(alloc);
     let mut moves = Vec::new(alloc);
     for event in 0..events.len() {
         sharing.note(alloc, events[event])?;

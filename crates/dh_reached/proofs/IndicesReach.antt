@@ -35,7 +35,7 @@ use Rattle.dh_meaning.specs.Effects.{Variables, value_of_term}
 use Rattle.dh_meaning.specs.Paths.{Path}
 use Rattle.dh_meets.specs.Charges.{index_in, level_of_loop}
 use Rattle.dh_code.specs.Extended.{extension_of}
-use Rattle.dh_code.specs.declared.places.Held.{Held}
+use Rattle.dh_code.specs.declared.places.VariableSlots.{VariableSlots}
 use Rattle.dh_code.specs.Slots.{held_at}
 use Rattle.dh_plan.specs.Blocks.{numbers_at, spot_in_row, spot_of_reach}
 use Rattle.dh_plan.specs.declared.operations.OperationForm.TheVariants.{Compute, Constant, Convert}
@@ -172,7 +172,7 @@ module _ (x : BlockStep) (scene : Scene) (lane : Lane) (stands : BlockStandsIn s
   abbrev cs : List Counter
   cs = counters_of (program_seen scene.program.now)
 
-  abbrev held_value : Option Counter → Held → ℤ
+  abbrev held_value : Option Counter → VariableSlots → ℤ
   held_value None held = pos 0
   held_value (Some c) held = pos (c.low + slice_index x.start.registers held.first * c.factor + copy_in_turn c held lane)
 
@@ -192,7 +192,7 @@ module _ (x : BlockStep) (scene : Scene) (lane : Lane) (stands : BlockStandsIn s
   number_shows place k negative z sized old new before after n next v m made f b =
       (computes old new v (Constant made.part.word) made.part.pushes (λ s first ws. refl)).is x f b ∙ made.part.is sized
 
-  by_counter : (o : Option Counter) (held : Held) (k : Kind) (old new : Draft) (v : ℕ) (c : Counter) → MadeBy o held lane current k old new v → o ≡ Some c → IsTurning x c held k → FitsStep x new → BlockBegun x old → word_shown x v ≡ word_of k (held_value o held)
+  by_counter : (o : Option Counter) (held : VariableSlots) (k : Kind) (old new : Draft) (v : ℕ) (c : Counter) → MadeBy o held lane current k old new v → o ≡ Some c → IsTurning x c held k → FitsStep x new → BlockBegun x old → word_shown x v ≡ word_of k (held_value o held)
   by_counter None held k old new v c m e t f b = absurd (cc)
   by_counter (Some d) held k old new v c m e t f b = m.1.is x f b (subst (λ (a : Counter). IsTurning x a held k) (sym (some_same d c e)) t)
 

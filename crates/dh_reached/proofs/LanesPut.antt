@@ -12,7 +12,7 @@ use Rattle.dh_meaning.specs.AccessNumbers.{term_accesses, terms_accesses}
 use Rattle.dh_meaning.specs.Ways.{Way}
 use Rattle.dh_code.specs.Extended.{extension_of}
 use Rattle.dh_tree.specs.Kinds.{same_kind}
-use Rattle.dh_code.specs.declared.places.Held.{Held}
+use Rattle.dh_code.specs.declared.places.VariableSlots.{VariableSlots}
 use Rattle.dh_code.specs.Slots.{held_at}
 use Rattle.dh_plan.specs.declared.operations.OperationForm.TheVariants.{Compute}
 use Rattle.dh_plan.specs.declared.operations.Reach.{Reach}
@@ -63,7 +63,7 @@ operand_none t kind.Bool value old new v m = none_still old new m.0
 operand_none t (kind.Unsigned w) value old new v m = held_none t (kind.Unsigned w) value old new v m
 operand_none t (kind.Signed w) value old new v m = held_none t (kind.Signed w) value old new v m
 
-folded_none : (lane : Lane) (current : List (Option ℕ)) (held : Held) (op : Op) (t : Term) (value : ℕ) (old new : Draft) (v : ℕ) → FoldedWith lane current held op t value old new v → AddsNone old new
+folded_none : (lane : Lane) (current : List (Option ℕ)) (held : VariableSlots) (op : Op) (t : Term) (value : ℕ) (old new : Draft) (v : ℕ) → FoldedWith lane current held op t value old new v → AddsNone old new
 folded_none lane current held op t value old new v m =
     none_again old m.first new (none_counted old m.first 0 _ _ (shown_counts (λ register. Unit {0}) (λ r. Unit {0}) (λ r. ⊥) (λ r. ⊥) current (register_at held lane) tt old m.first m.before m.shown))
     (none_again m.first m.second new (old_operand_none held.kind (extension_of op held.kind (kind_written t)) m.before m.first m.second m.left m.left_made)

@@ -23,7 +23,7 @@ use Rattle.dh_meets.specs.Charges.{may_reach}
 use Rattle.dh_ways.specs.Leading.{StepsLead, next_dims}
 use Rattle.dh_meaning.specs.Phases.{Located, turn_count}
 use Rattle.dh_plan.specs.Blocks.{kind_at}
-use Rattle.dh_code.specs.declared.places.Held.{Held}
+use Rattle.dh_code.specs.declared.places.VariableSlots.{VariableSlots}
 use Rattle.dh_code.specs.Slots.{held_at}
 use Rattle.dh_sound.specs.IndexValues.{AllHaveIndexKinds}
 use Rattle.dh_expressions.specs.declared.paths.Level.{Level}
@@ -36,7 +36,7 @@ use Rattle.dh_commands.specs.Setting.{IsVariableAmong}
 use Rattle.dh_commands.specs.ShownVariables.{IsSeen, depth_in}
 
 -- the loop of an iterator is in a turn of its own, as its counter tells; where it is unrolled it is one of these levels
-pub record CounterTurns (x : BlockStep) (c : Counter) (held : Held) (levels : List Level) : Type 0 where
+pub record CounterTurns (x : BlockStep) (c : Counter) (held : VariableSlots) (levels : List Level) : Type 0 where
   pub width : ℕ
   pub counter : kind_at x.start.kinds held.first ≡ Unsigned width
   pub below : slice_index x.start.registers held.first < turn_count c.low c.high c.factor

@@ -17,13 +17,13 @@ use Rattle.dh_meaning.specs.Phases as source
 use Rattle.dh_meaning.specs.Phases.{phases}
 use Rattle.dh_meaning.specs.Sites.{nothing_around}
 use Rattle.dh_code.specs.declared.flattening.Names.{Names}
-use Rattle.dh_code.specs.declared.places.Held.{Held}
+use Rattle.dh_code.specs.declared.places.VariableSlots.{VariableSlots}
 use Rattle.dh_code.specs.Declarations.{Declaration, all_declarations_of, all_held, declarations, declared_of, hidden_declarations, placing_of, slots_counted, slots_of}
 use Rattle.dh_code.specs.Flattening.{IsPlacingOf, known_by_names}
 use Rattle.dh_code.specs.Placed.{AreFewHidden, hidden_as, most_entities}
 use Rattle.dh_code.proofs.HiddenPlaced.{entities_so, hidden_placed, kinds_all}
 use Rattle.dh_code.proofs.KindsHeld.{length_held}
-use Rattle.dh_sem.specs.declared.holding.Made.{Made}
+use Rattle.dh_sem.specs.declared.holding.MadeRun.{MadeRun}
 use Rattle.dh_sem.specs.Held.{HoldsAll, HoldsProgram, IsSoundMade, course_made}
 use Rattle.dh_sem.specs.Lanes.{AreFirstLanes}
 use Rattle.dh_sem.specs.Phased.{ArePhases}
@@ -50,7 +50,7 @@ module _ (t : Tree) (n : ℕ) (hidden : List Hidden) (long : n ≡ length t.enti
   pub few_hidden : IsRunnable q → AreFewHidden hidden
   few_hidden runnable = (hidden_declarations q, (hidden_placed q hidden kept, runnable.hidden))
 
-  pub places_are : (a : Action) (count : ℕ) (slice held : List Held) → slice ≡ held → a ≡ action_seen t.body
+  pub places_are : (a : Action) (count : ℕ) (slice held : List VariableSlots) → slice ≡ held → a ≡ action_seen t.body
       → ((ds : List Declaration) → map declared_of ds ≡ map hidden_as hidden → (held ≡ all_held (declarations [] a ++ ds) 0 0 (n + length hidden)) × (count ≡ slots_counted (declarations [] a ++ ds) 0 0 (n + length hidden)))
       → (slice ≡ (placing_of q).held) × (count ≡ slots_of q)
   places_are a count slice held same seen h =
@@ -60,7 +60,7 @@ module _ (t : Tree) (n : ℕ) (hidden : List Hidden) (long : n ≡ length t.enti
         are.1 ∙ (ap (λ a. slots_counted (declarations [] a ++ ds) 0 0 (n + length hidden)) seen ∙ ap (λ m. slots_counted (declarations [] (action_seen t.body) ++ ds) 0 0 m) total),
       )
 
-module _ (names : Names) (old new : Made) (body : Command) (first : Option ℕ) (holds : HoldsAll names old new body first) where
+module _ (names : Names) (old new : MadeRun) (body : Command) (first : Option ℕ) (holds : HoldsAll names old new body first) where
   abbrev p : Program
   p = program_seen names.program.now
 

@@ -14,10 +14,10 @@ use Rattle.dh_meaning.specs.Effects.{Begun, unset}
 use Rattle.dh_meaning.specs.Paths.{outer_paths}
 use Rattle.dh_meaning.specs.Runs.{RunNext, over, phases_then, next_of}
 use Rattle.dh_code.specs.declared.codes.Code.{Code}
-use Rattle.dh_code.specs.declared.codes.Operation.{Operation}
-use Rattle.dh_code.specs.declared.codes.Step.{Step}
+use Rattle.dh_code.specs.declared.codes.CodeOperation.{CodeOperation}
+use Rattle.dh_code.specs.declared.codes.ListedCommand.{ListedCommand}
 use Rattle.dh_code.specs.Operated.{IsOperation}
-use Rattle.dh_code.specs.declared.running.State.{State}
+use Rattle.dh_code.specs.declared.running.StepState.{StepState}
 use Rattle.dh_code.specs.declared.spending.Bank.{Bank}
 use Rattle.dh_code.specs.Banks.{AreFirsts, all_banks}
 use Rattle.dh_code.specs.Spent.{AreUsedBy}
@@ -31,8 +31,8 @@ use Rattle.dh_code.proofs.Ranges.{items_same}
 use Rattle.dh_sem.specs.declared.lanes.Lanes.{Lanes}
 use Rattle.dh_sem.specs.declared.phases.Frame.{Frame}
 use Rattle.dh_sem.specs.declared.phases.Frame.TheVariants.{List as Rest}
-use Rattle.dh_sem.specs.declared.phases.Phase.{Phase}
-use Rattle.dh_sem.specs.declared.holding.Made.{Made}
+use Rattle.dh_sem.specs.declared.phases.HeldPhase.{HeldPhase}
+use Rattle.dh_sem.specs.declared.holding.MadeRun.{MadeRun}
 use Rattle.dh_sem.specs.declared.stepping.Course as code
 use Rattle.dh_sem.specs.Frames.{AreToCome}
 use Rattle.dh_sem.specs.declared.starting.Begun as starting
@@ -146,17 +146,17 @@ holds_unset p slots is = record {
   each = λ e path within inside. ap (λ l. slice_index l (slot_of (placing_of p) e path)) is ∙ (zero_at (slots_of p) (slot_of (placing_of p) e path) ∙ zero_kept);
 }
 
-abbrev none_yet : List Step
+abbrev none_yet : List ListedCommand
 none_yet = []
 
-abbrev no_phases : List Phase
+abbrev no_phases : List HeldPhase
 no_phases = []
 
 -- nothing was made yet
-pub sound_empty : (table : List MemEntry) (m : Made) → m.code.operations ≡ [] → m.code.steps ≡ [] → m.phases.items ≡ [] → IsSoundMade table m
+pub sound_empty : (table : List MemEntry) (m : MadeRun) → m.code.operations ≡ [] → m.code.steps ≡ [] → m.phases.items ≡ [] → IsSoundMade table m
 sound_empty table m os steps phases = record {
   code = record {
-    operations = subst (λ (l : List Operation). AllByRecursion (IsOperation table) l) (sym os) tt;
+    operations = subst (λ (l : List CodeOperation). AllByRecursion (IsOperation table) l) (sym os) tt;
     steps = λ at s e. absurd (none_at at s (sym (ap (λ l. slice_get l at) steps) ∙ e));
   };
   course = record {
@@ -165,10 +165,10 @@ sound_empty table m os steps phases = record {
   };
 }
   where
-    none_at : (at : ℕ) (s : Step) → slice_get none_yet at ≡ Some s → ⊥
+    none_at : (at : ℕ) (s : ListedCommand) → slice_get none_yet at ≡ Some s → ⊥
     none_at at s e = cc
 
-    no_phase : (at : ℕ) (s : Phase) → slice_get no_phases at ≡ Some s → ⊥
+    no_phase : (at : ℕ) (s : HeldPhase) → slice_get no_phases at ≡ Some s → ⊥
     no_phase at s e = cc
 
 -- the first frame is of a list that begins earlier
@@ -176,7 +176,7 @@ pub first_sound : (count : ℕ) (first : Option ℕ) (frames empty : List Frame)
 first_sound count first frames empty none is earlier = subst (λ (l : List Frame). AllByRecursion (IsSoundFrame count) l) (sym is) (earlier, tt)
 
 -- a run before its first step stands at the first block
-pub first_stands : (p : Program) (table : List MemEntry) (made : Code) (cc : code.Course) (first at' : Option ℕ) (old new : State) (frames gs : List Frame) (memories : List (List ℕ)) (outcome : Outcome)
+pub first_stands : (p : Program) (table : List MemEntry) (made : Code) (cc : code.Course) (first at' : Option ℕ) (old new : StepState) (frames gs : List Frame) (memories : List (List ℕ)) (outcome : Outcome)
     → table ≡ (core_of p).table → frames ≡ Rest first ∷ [] → ArePhases (core_of p).table (placing_of p) (course_of made cc) [] first (core_of p).phases → Holds (placing_of p) old.variables.items unset
     → GoesOn cc at' old new frames gs false → outcome ≡ place_outcome at' → StandsAt p memories 0 (run_at table (course_of made cc) outcome 0 memories new.variables.items at' gs)
 first_stands p table made cc first at' old new frames gs memories outcome tabled is are holds goes leads =
@@ -190,7 +190,7 @@ first_stands p table made cc first at' old new frames gs memories outcome tabled
       stands = stands_placed (core_of p).table (course_of made cc) 0 memories new.variables.items at' gs outcome (placing_of p) n leads a.variables a.place;
     })
 
-pub stands_as : (p : Program) (table : List MemEntry) (made : Code) (cc : code.Course) (course : Course) (first at' : Option ℕ) (old new : State) (frames gs : List Frame) (memories : List (List ℕ)) (outcome : Outcome)
+pub stands_as : (p : Program) (table : List MemEntry) (made : Code) (cc : code.Course) (course : Course) (first at' : Option ℕ) (old new : StepState) (frames gs : List Frame) (memories : List (List ℕ)) (outcome : Outcome)
     → course_of made cc ≡ course → table ≡ (core_of p).table → frames ≡ Rest first ∷ [] → ArePhases (core_of p).table (placing_of p) course [] first (core_of p).phases → Holds (placing_of p) old.variables.items unset
     → GoesOn cc at' old new frames gs false → outcome ≡ place_outcome at' → StandsAt p memories 0 (run_at table course outcome 0 memories new.variables.items at' gs)
 stands_as p table made cc course first at' old new frames gs memories outcome coursed tabled is are holds goes leads =
@@ -198,7 +198,7 @@ stands_as p table made cc course first at' old new frames gs memories outcome co
     (first_stands p table made cc first at' old new frames gs memories outcome tabled is (subst (λ (c : Course). ArePhases (core_of p).table (placing_of p) c [] first (core_of p).phases) (sym coursed) are) holds goes leads)
 
 -- and can go on
-pub first_steady : (p : Program) (table : List MemEntry) (m : Made) (o : Outcome) (memories : List (List ℕ)) (old new : State) (place : Option ℕ) (frames : List Frame) (phases : List Phase) (firsts : List ℕ)
+pub first_steady : (p : Program) (table : List MemEntry) (m : MadeRun) (o : Outcome) (memories : List (List ℕ)) (old new : StepState) (place : Option ℕ) (frames : List Frame) (phases : List HeldPhase) (firsts : List ℕ)
     → table ≡ table_of p → IsProgramTable (table_of p) → IsSoundMade (table_of p) m → Fits (table_of p) memories → AreFirsts table firsts → length old.given.items ≡ length m.code.operations
     → length old.banks.items ≡ all_banks table → AreUsedBy 0 old.banks.items → OnlyVariables old new → phases ≡ m.phases.items → AllByRecursion (IsSoundFrame (length phases)) frames → IsEarlier (length phases) place
     → IsSteady (run_at table (course_made m) o 0 memories new.variables.items place frames) new.given.items new.banks.items firsts
@@ -212,24 +212,24 @@ first_steady p table m o memories old new place frames phases firsts tabled t so
   long = ap (λ l. length l) (items_same _ _ only.banks) ∙ banks;
   free = subst (λ (l : List Bank). AreUsedBy 0 l) (sym (items_same _ _ only.banks)) free;
   course = sound.course;
-  frames = subst (λ (l : List Phase). AllByRecursion (IsSoundFrame (length l)) frames) same framed;
-  place = subst (λ (l : List Phase). IsEarlier (length l) place) same earlier;
+  frames = subst (λ (l : List HeldPhase). AllByRecursion (IsSoundFrame (length l)) frames) same framed;
+  place = subst (λ (l : List HeldPhase). IsEarlier (length l) place) same earlier;
 }
   where
     enough : (a b : ℕ) → a ≡ b → a ≤ b
     enough a b e = omega (arith, e)
 
-pub linked_as : (phases kept : List Phase) (lanes held : List Lanes) → phases ≡ kept → lanes ≡ held → AreLinked kept held → AreLinked phases lanes
-linked_as phases kept lanes held e f h = subst (λ (l : List Phase). AreLinked l lanes) (sym e) (subst (λ (l : List Lanes). AreLinked kept l) (sym f) h)
+pub linked_as : (phases kept : List HeldPhase) (lanes held : List Lanes) → phases ≡ kept → lanes ≡ held → AreLinked kept held → AreLinked phases lanes
+linked_as phases kept lanes held e f h = subst (λ (l : List HeldPhase). AreLinked l lanes) (sym e) (subst (λ (l : List Lanes). AreLinked kept l) (sym f) h)
 
-pub framed_as : (phases kept : List Phase) (first : Option ℕ) (frames : List Frame) → phases ≡ kept → frames ≡ Rest first ∷ [] → IsEarlier (length kept) first → AllByRecursion (IsSoundFrame (length phases)) frames
+pub framed_as : (phases kept : List HeldPhase) (first : Option ℕ) (frames : List Frame) → phases ≡ kept → frames ≡ Rest first ∷ [] → IsEarlier (length kept) first → AllByRecursion (IsSoundFrame (length phases)) frames
 framed_as phases kept first frames same is earlier =
-    subst (λ (l : List Phase). AllByRecursion (IsSoundFrame (length l)) frames) (sym same) (first_sound (length kept) first frames [] refl is earlier)
+    subst (λ (l : List HeldPhase). AllByRecursion (IsSoundFrame (length l)) frames) (sym same) (first_sound (length kept) first frames [] refl is earlier)
 
-pub earlier_as : (phases kept : List Phase) (first : Option ℕ) → phases ≡ kept → IsEarlier (length kept) first → IsEarlier (length phases) first
-earlier_as phases kept first same earlier = subst (λ (l : List Phase). IsEarlier (length l) first) (sym same) earlier
+pub earlier_as : (phases kept : List HeldPhase) (first : Option ℕ) → phases ≡ kept → IsEarlier (length kept) first → IsEarlier (length phases) first
+earlier_as phases kept first same earlier = subst (λ (l : List HeldPhase). IsEarlier (length l) first) (sym same) earlier
 
-pub unused_as : (slots slots' operations operations' banks banks' : ℕ) (state : State) → slots ≡ slots' → operations ≡ operations' → banks ≡ banks' → IsUnused slots operations banks state → IsUnused slots' operations' banks' state
+pub unused_as : (slots slots' operations operations' banks banks' : ℕ) (state : StepState) → slots ≡ slots' → operations ≡ operations' → banks ≡ banks' → IsUnused slots operations banks state → IsUnused slots' operations' banks' state
 unused_as slots slots' operations operations' banks banks' state s o b h = record {
   variables_are = h.variables_are ∙ ap (λ n. replicate n 0) s;
   given_long = h.given_long ∙ o;
@@ -238,7 +238,7 @@ unused_as slots slots' operations operations' banks banks' state s o b h = recor
 }
 
 -- what a run begins with that goes to the first block of what was made of its program
-pub begun_as : (p : Program) (table : List MemEntry) (b : starting.Begun) (first : Option ℕ) (old : State) (cc : code.Course) → table ≡ table_of p → IsProgramTable (table_of p) → HoldsProgram p b.made first → AreFirsts table b.firsts.items
+pub begun_as : (p : Program) (table : List MemEntry) (b : starting.Begun) (first : Option ℕ) (old : StepState) (cc : code.Course) → table ≡ table_of p → IsProgramTable (table_of p) → HoldsProgram p b.made first → AreFirsts table b.firsts.items
     → IsUnused (slots_of p) (length b.made.code.operations) (all_banks table) old → cc.phases.now ≡ b.made.phases.items → cc.lanes.now ≡ b.made.lanes.items → ReachesFirstBlock cc first b.place old b.state b.frames.items → IsBegunRun p b
 begun_as p table b first old cc tabled t holds firsts unused phases lanes stands = record {
   steady = λ outcome memories fits.

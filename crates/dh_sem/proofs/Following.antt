@@ -10,15 +10,15 @@ use Rattle.dh_meaning.specs.Effects.{Begun, Variables, holds_at}
 use Rattle.dh_meaning.specs.Paths.{paths_in}
 use Rattle.dh_meaning.specs.Runs.{RunNext, next, ended, RunTodo, over, phases_then, turn_then, test_then, again_then, pick_then, enter, first_path, inner_paths, next_of, turn_begun}
 use Rattle.dh_code.specs.declared.codes.Code.{Code}
-use Rattle.dh_code.specs.declared.running.State.{State}
+use Rattle.dh_code.specs.declared.running.StepState.{StepState}
 use Rattle.dh_code.specs.Declarations.{factors_inside}
 use Rattle.dh_code.specs.Slots.{Holds, Placing}
 use Rattle.dh_sem.specs.declared.lanes.Lanes.{Lanes}
-use Rattle.dh_sem.specs.declared.phases.Form.{Form}
-use Rattle.dh_sem.specs.declared.phases.Form.TheVariants.{Straight, Turns, Loop, Choice}
+use Rattle.dh_sem.specs.declared.phases.PhaseForm.{PhaseForm}
+use Rattle.dh_sem.specs.declared.phases.PhaseForm.TheVariants.{Straight, Turns, Loop, Choice}
 use Rattle.dh_sem.specs.declared.phases.Frame.{Frame}
 use Rattle.dh_sem.specs.declared.phases.Frame.TheVariants.{List as Rest, Turn, Test, Again, Pick}
-use Rattle.dh_sem.specs.declared.phases.Phase.{Phase}
+use Rattle.dh_sem.specs.declared.phases.HeldPhase.{HeldPhase}
 use Rattle.dh_sem.specs.declared.phases.Turns as turns
 use Rattle.dh_sem.specs.declared.stepping.Course as code
 use Rattle.dh_sem.specs.Frames.{AreToCome, IsFirst, BeginsWithoutTest, StandsFor}
@@ -124,10 +124,10 @@ module _ (table : List MemEntry) (p : Placing) (c : Course) where
   }
 
   -- the phase of a number that stands for one
-  pub form_of : (factors : List ℕ) (number : ℕ) (phase : Phase) (q : CorePhase) → slice_get c.phases number ≡ Some phase → StandsFor table p c factors number q → IsPhase table p c factors number phase.form q
-  form_of factors number phase q get (other, (there, (lanes, does))) = subst (λ (x : Phase). IsPhase table p c factors number x.form q) (some_same other phase (sym there ∙ get)) does
+  pub form_of : (factors : List ℕ) (number : ℕ) (phase : HeldPhase) (q : CorePhase) → slice_get c.phases number ≡ Some phase → StandsFor table p c factors number q → IsPhase table p c factors number phase.form q
+  form_of factors number phase q get (other, (there, (lanes, does))) = subst (λ (x : HeldPhase). IsPhase table p c factors number x.form q) (some_same other phase (sym there ∙ get)) does
 
-  pub no_turns : (factors : List ℕ) (number : ℕ) (form : Form) (loop : Turning) (body : CorePhases) → turns_in form ≡ None → IsPhase table p c factors number form (turning loop body) → ⊥
+  pub no_turns : (factors : List ℕ) (number : ℕ) (form : PhaseForm) (loop : Turning) (body : CorePhases) → turns_in form ≡ None → IsPhase table p c factors number form (turning loop body) → ⊥
   no_turns factors number (Straight list) loop body e h = h
   no_turns factors number (Turns t) loop body e h = never t e
     where
@@ -136,19 +136,19 @@ module _ (table : List MemEntry) (p : Placing) (c : Course) where
   no_turns factors number (Loop f list) loop body e h = h
   no_turns factors number (Choice f one two) loop body e h = h
 
-  pub the_turns : (factors : List ℕ) (number : ℕ) (form : Form) (t : turns.Turns) (loop : Turning) (body : CorePhases) → turns_in form ≡ Some t → IsPhase table p c factors number form (turning loop body) → IsPhase table p c factors number (Turns t) (turning loop body)
+  pub the_turns : (factors : List ℕ) (number : ℕ) (form : PhaseForm) (t : turns.Turns) (loop : Turning) (body : CorePhases) → turns_in form ≡ Some t → IsPhase table p c factors number form (turning loop body) → IsPhase table p c factors number (Turns t) (turning loop body)
   the_turns factors number (Straight list) t loop body e h = absurd h
   the_turns factors number (Turns u) t loop body e h = subst (λ (w : turns.Turns). IsPhase table p c factors number (Turns w) (turning loop body)) (some_same u t e) h
   the_turns factors number (Loop f list) t loop body e h = absurd h
   the_turns factors number (Choice f one two) t loop body e h = absurd h
 
-  pub loop_body : (factors : List ℕ) (number : ℕ) (form : Form) (test : CoreTerm) (body : CorePhases) (holds : Bool) → IsPhase table p c factors number form (looping test body) → ArePhases table p c factors (taken_branch form holds) body
+  pub loop_body : (factors : List ℕ) (number : ℕ) (form : PhaseForm) (test : CoreTerm) (body : CorePhases) (holds : Bool) → IsPhase table p c factors number form (looping test body) → ArePhases table p c factors (taken_branch form holds) body
   loop_body factors number (Straight list) test body holds h = absurd h
   loop_body factors number (Turns t) test body holds h = absurd h
   loop_body factors number (Loop f list) test body holds (flat, (can, (early, are))) = are
   loop_body factors number (Choice f one two) test body holds h = absurd h
 
-  pub chosen_arm : (factors : List ℕ) (number : ℕ) (form : Form) (test : CoreTerm) (chosen other : CorePhases) → IsPhase table p c factors number form (choosing test chosen other) → (holds : Bool) → ArePhases table p c factors (taken_branch form holds) (if holds then chosen else other)
+  pub chosen_arm : (factors : List ℕ) (number : ℕ) (form : PhaseForm) (test : CoreTerm) (chosen other : CorePhases) → IsPhase table p c factors number form (choosing test chosen other) → (holds : Bool) → ArePhases table p c factors (taken_branch form holds) (if holds then chosen else other)
   chosen_arm factors number (Straight list) test chosen other h holds = absurd h
   chosen_arm factors number (Turns t) test chosen other h holds = absurd h
   chosen_arm factors number (Loop f list) test chosen other h holds = absurd h
@@ -183,7 +183,7 @@ module _ (x : code.Course) where
   turns_count : (table : List MemEntry) (p : Placing) (made : Code) (factors : List ℕ) (number : ℕ) (t : turns.Turns) (loop : Turning) (body : CorePhases) → IsPhase table p (course_of made x) factors number (Turns t) (turning loop body) → t.count ≡ loop.count
   turns_count table p made factors number t loop body (turned, rest) = turned.count
 
-  pub turn_next : (number turn later : ℕ) (phase : Phase) (t : turns.Turns) (lanes : Lanes) (holds : Bool) (found : Option ℕ) (old mid new : State) (fs gs hs : List Frame) → slice_get x.phases.now number ≡ Some phase → turns_in phase.form ≡ Some t → later ≡ turn + 1 → later < t.count
+  pub turn_next : (number turn later : ℕ) (phase : HeldPhase) (t : turns.Turns) (lanes : Lanes) (holds : Bool) (found : Option ℕ) (old mid new : StepState) (fs gs hs : List Frame) → slice_get x.phases.now number ≡ Some phase → turns_in phase.form ≡ Some t → later ≡ turn + 1 → later < t.count
       → slice_get x.lanes.now t.inside ≡ Some lanes → BeginsTurn old mid lanes t later → gs ≡ fs ++ Turn number later ∷ [] → IsSome t.body → NowhereIfNone t.body found mid new gs hs → Descends x t.body found mid new gs hs
       → FollowsFrame x (Turn number turn) holds found old new fs hs
   turn_next number turn later phase t lanes holds found old mid new fs gs hs get is next_is below in_lanes begun pushed some nowhere d table p made b v k behind first settled come h hf =
@@ -224,14 +224,14 @@ module _ (x : code.Course) where
           reached None nowhere n e = absurd (subst IsSome nowhere.list_is some)
           reached (Some m) nowhere n e = e
 
-  pub turn_light : (number turn : ℕ) (t : turns.Turns) (found : Option ℕ) (a b a' b' : State) (fs gs fs' gs' : List Frame) → IsSome t.body → NowhereIfNone t.body found a b fs gs → Lightens found (Turn number turn) a' b' fs' gs'
+  pub turn_light : (number turn : ℕ) (t : turns.Turns) (found : Option ℕ) (a b a' b' : StepState) (fs gs fs' gs' : List Frame) → IsSome t.body → NowhereIfNone t.body found a b fs gs → Lightens found (Turn number turn) a' b' fs' gs'
   turn_light number turn t None a b a' b' fs gs fs' gs' some h = absurd (subst IsSome h.list_is some)
   turn_light number turn t (Some n) a b a' b' fs gs fs' gs' some h = tt
 
   -- The other frames.
 
   -- a list leads into its first block, or to what lies behind
-  into_list : (table : List MemEntry) (p : Placing) (made : Code) (b : Begun) (v : Variables) (factors : List ℕ) (qs : CorePhases) (list found : Option ℕ) (k : RunTodo) (old new : State) (fs gs : List Frame)
+  into_list : (table : List MemEntry) (p : Placing) (made : Code) (b : Begun) (v : Variables) (factors : List ℕ) (qs : CorePhases) (list found : Option ℕ) (k : RunTodo) (old new : StepState) (fs gs : List Frame)
       → ArePhases table p (course_of made x) factors list qs → AreToCome table p (course_of made x) (reverse fs) k → BeginsWithoutTest k → NowhereIfNone list found old new fs gs
       → DescendsTo table p (course_of made x) found new gs (enter (paths_in factors) qs k (next_of b k v) v) → FollowsTo table p (course_of made x) b v (enter (paths_in factors) qs k (next_of b k v) v) found new gs
   into_list table p made b v factors qs list None k old new fs gs are come settled nowhere d = record {
@@ -242,21 +242,21 @@ module _ (x : code.Course) where
   }
   into_list table p made b v factors qs list (Some n) k old new fs gs are come settled nowhere d = d
 
-  pub list_follows : (list found : Option ℕ) (holds : Bool) (old new : State) (fs gs : List Frame) → NowhereIfNone list found old new fs gs → Descends x list found old new fs gs → FollowsFrame x (Rest list) holds found old new fs gs
+  pub list_follows : (list found : Option ℕ) (holds : Bool) (old new : StepState) (fs gs : List Frame) → NowhereIfNone list found old new fs gs → Descends x list found old new fs gs → FollowsFrame x (Rest list) holds found old new fs gs
   list_follows list found holds old new fs gs nowhere d table p made b v k behind first settled come h hf =
       let c = course_of made x in
       let f = first_list table p c list k behind first in
       subst (λ (l : RunTodo). FollowsTo table p c b v (next_of b l v) found new gs) (sym f.is)
       (into_list table p made b v f.factors f.qs list found behind old new fs gs f.are come settled nowhere (d table p made f.factors f.qs behind (next_of b behind v) v f.are come settled h))
 
-  pub light_list : (list found : Option ℕ) (frame : Frame) (old new : State) (fs gs : List Frame) → 0 < frame_weight frame → NowhereIfNone list found old new fs gs → Lightens found frame old new fs gs
+  pub light_list : (list found : Option ℕ) (frame : Frame) (old new : StepState) (fs gs : List Frame) → 0 < frame_weight frame → NowhereIfNone list found old new fs gs → Lightens found frame old new fs gs
   light_list list None frame old new fs gs some h = (h.state, subst (λ (l : List Frame). weight_of l < frame_weight frame + weight_of fs) (sym h.frames) (less (frame_weight frame) (weight_of fs) some))
     where
       less : (a b : ℕ) → 0 < a → b < a + b
       less a b e = omega (arith, e)
   light_list list (Some n) frame old new fs gs some h = tt
 
-  pub pick_follows : (number : ℕ) (phase : Phase) (found : Option ℕ) (holds : Bool) (old new : State) (fs gs : List Frame) → slice_get x.phases.now number ≡ Some phase → NowhereIfNone (taken_branch phase.form holds) found old new fs gs
+  pub pick_follows : (number : ℕ) (phase : HeldPhase) (found : Option ℕ) (holds : Bool) (old new : StepState) (fs gs : List Frame) → slice_get x.phases.now number ≡ Some phase → NowhereIfNone (taken_branch phase.form holds) found old new fs gs
       → Descends x (taken_branch phase.form holds) found old new fs gs → FollowsFrame x (Pick number) holds found old new fs gs
   pick_follows number phase found holds old new fs gs get nowhere d table p made b v k behind first settled come h hf =
       let c = course_of made x in
@@ -277,7 +277,7 @@ module _ (x : code.Course) where
           (into_list table p made b v factors (if holds then chosen else other) (taken_branch phase.form holds) found behind old new fs gs are come settled nowhere
           (d table p made factors (if holds then chosen else other) behind (next_of b behind v) v are come settled h))
 
-  pub test_follows : (number : ℕ) (phase : Phase) (found : Option ℕ) (old new : State) (fs gs hs : List Frame) → slice_get x.phases.now number ≡ Some phase → gs ≡ fs ++ Again number ∷ [] → NowhereIfNone (taken_branch phase.form true) found old new gs hs
+  pub test_follows : (number : ℕ) (phase : HeldPhase) (found : Option ℕ) (old new : StepState) (fs gs hs : List Frame) → slice_get x.phases.now number ≡ Some phase → gs ≡ fs ++ Again number ∷ [] → NowhereIfNone (taken_branch phase.form true) found old new gs hs
       → Descends x (taken_branch phase.form true) found old new gs hs → FollowsFrame x (Test number) true found old new fs hs
   test_follows number phase found old new fs gs hs get pushed nowhere d table p made b v k behind first settled come h hf =
       let c = course_of made x in
@@ -294,7 +294,7 @@ module _ (x : code.Course) where
           subst (λ (n : RunNext). FollowsTo table p c b v n found new hs) (sym (ap (λ t. if t then enter (paths_in factors) body k' (next_of b k' v) v else next_of b behind v) so))
           (into_list table p made b v factors body (taken_branch phase.form true) found k' old new gs hs are come' tt nowhere (d table p made factors body k' (next_of b k' v) v are come' tt h))
 
-  pub test_light : (number : ℕ) (list found : Option ℕ) (old new : State) (fs gs hs : List Frame) → gs ≡ fs ++ Again number ∷ [] → NowhereIfNone list found old new gs hs → Lightens found (Test number) old new fs hs
+  pub test_light : (number : ℕ) (list found : Option ℕ) (old new : StepState) (fs gs hs : List Frame) → gs ≡ fs ++ Again number ∷ [] → NowhereIfNone list found old new gs hs → Lightens found (Test number) old new fs hs
   test_light number list None old new fs gs hs pushed h = (h.state, subst (λ (l : List Frame). weight_of l < 2 + weight_of fs) (sym (h.frames ∙ pushed)) (less fs))
     where
       less : (fs : List Frame) → weight_of (fs ++ Again number ∷ []) < 2 + weight_of fs
@@ -305,7 +305,7 @@ module _ (x : code.Course) where
           by a b c e = omega (arith, e)
   test_light number list (Some n) old new fs gs hs pushed h = tt
 
-  pub again_follows : (number : ℕ) (holds : Bool) (old : State) (fs gs : List Frame) → gs ≡ fs ++ Test number ∷ [] → FollowsFrame x (Again number) holds (Some number) old old fs gs
+  pub again_follows : (number : ℕ) (holds : Bool) (old : StepState) (fs gs : List Frame) → gs ≡ fs ++ Test number ∷ [] → FollowsFrame x (Again number) holds (Some number) old old fs gs
   again_follows number holds old fs gs pushed table p made b v k behind first settled come h hf =
       let c = course_of made x in
       let f = first_again table p c number k behind first in
@@ -339,22 +339,22 @@ module _ (x : code.Course) where
       → (behind : RunTodo) × (IsFirst table p (course_of made x) frame k behind × (BeginsWithoutTest behind × AreToCome table p (course_of made x) (reverse gs) behind))
   first_come table p made fs gs frame k is come = subst (λ (l : List Frame). AreToCome table p (course_of made x) l k) (ap (λ l. reverse l) is ∙ reverse-append gs (frame ∷ [])) come
 
-  pub none_goes : (holds : Bool) (old new : State) (fs gs : List Frame) → fs ≡ [] → new ≡ old → GoesOn x None old new fs gs holds
+  pub none_goes : (holds : Bool) (old new : StepState) (fs gs : List Frame) → fs ≡ [] → new ≡ old → GoesOn x None old new fs gs holds
   none_goes holds old new fs gs empty same table p made b v k come h hf =
       let none : k ≡ over = subst (λ (l : List Frame). AreToCome table p (course_of made x) (reverse l) k) empty come in
-      subst (λ (l : RunTodo). Arrives table p (course_of made x) (next_of b l v) new None gs) (sym none) (record { variables = subst (λ (s : State). Holds p s.variables.items v) (sym same) h; place = tt })
+      subst (λ (l : RunTodo). Arrives table p (course_of made x) (next_of b l v) new None gs) (sym none) (record { variables = subst (λ (s : StepState). Holds p s.variables.items v) (sym same) h; place = tt })
 
-  pub some_goes : (holds : Bool) (number : ℕ) (frame : Frame) (old new : State) (fs gs hs : List Frame) → fs ≡ gs ++ frame ∷ [] → FollowsFrame x frame holds (Some number) old new gs hs → GoesOn x (Some number) old new fs hs holds
+  pub some_goes : (holds : Bool) (number : ℕ) (frame : Frame) (old new : StepState) (fs gs hs : List Frame) → fs ≡ gs ++ frame ∷ [] → FollowsFrame x frame holds (Some number) old new gs hs → GoesOn x (Some number) old new fs hs holds
   some_goes holds number frame old new fs gs hs is follows table p made b v k come h hf =
       let f = first_come table p made fs gs frame k is come in
       follows table p made b v k f.0 f.1.0 f.1.1.0 f.1.1.1 h hf
 
-  pub further_goes : (holds : Bool) (found : Option ℕ) (frame : Frame) (old mid new : State) (fs gs hs ks : List Frame) → fs ≡ gs ++ frame ∷ [] → mid ≡ old → FollowsFrame x frame holds None old mid gs hs → GoesOn x found mid new hs ks holds → GoesOn x found old new fs ks holds
+  pub further_goes : (holds : Bool) (found : Option ℕ) (frame : Frame) (old mid new : StepState) (fs gs hs ks : List Frame) → fs ≡ gs ++ frame ∷ [] → mid ≡ old → FollowsFrame x frame holds None old mid gs hs → GoesOn x found mid new hs ks holds → GoesOn x found old new fs ks holds
   further_goes holds found frame old mid new fs gs hs ks is same follows goes table p made b v k come h hf =
       let f = first_come table p made fs gs frame k is come in
       let g = follows table p made b v k f.0 f.1.0 f.1.1.0 f.1.1.1 h hf in
       subst (λ (n : RunNext). Arrives table p (course_of made x) n new found ks) g.same
-      (goes table p made b v g.todo g.are (subst (λ (s : State). Holds p s.variables.items v) (sym same) h) (settled_holds b v g.todo holds g.settled))
+      (goes table p made b v g.todo g.are (subst (λ (s : StepState). Holds p s.variables.items v) (sym same) h) (settled_holds b v g.todo holds g.settled))
 
 pub weight_last : (fs : List Frame) (f : Frame) → weight_of (fs ++ f ∷ []) ≡ frame_weight f + weight_of fs
 weight_last [] f = refl
@@ -364,22 +364,22 @@ weight_last (g ∷ fs) f = ap (λ n. frame_weight g + n) (weight_last fs f) ∙ 
     by a b c = omega arith
 
 -- where no frame is left the run is at its end
-nothing_goes : (x : code.Course) (holds : Bool) (now : State) (fs ks : List Frame) → fs ≡ [] → GoesOn x None now now fs ks holds
+nothing_goes : (x : code.Course) (holds : Bool) (now : StepState) (fs ks : List Frame) → fs ≡ [] → GoesOn x None now now fs ks holds
 nothing_goes x holds now fs ks none table p made b v k come h hf =
     let is_over : k ≡ over = subst (λ (l : List Frame). AreToCome table p (course_of made x) (reverse l) k) none come in
     subst (λ (t : RunTodo). Arrives table p (course_of made x) (next_of b t v) now None ks) (sym is_over) (record { variables = h; place = tt })
 
 -- the frames so far led to no block
-pub record GoneSoFar (x : code.Course) (holds : Bool) (old : State) (before : List Frame) (now : State) (frames : List Frame) : Type 0 where
+pub record GoneSoFar (x : code.Course) (holds : Bool) (old : StepState) (before : List Frame) (now : StepState) (frames : List Frame) : Type 0 where
   pub only : OnlyVariables old now
   pub sound : AllByRecursion (IsSoundFrame (length x.phases.now)) frames
-  pub goes : (found : Option ℕ) (new : State) (ks : List Frame) → GoesOn x found now new frames ks holds → GoesOn x found old new before ks holds
+  pub goes : (found : Option ℕ) (new : StepState) (ks : List Frame) → GoesOn x found now new frames ks holds → GoesOn x found old new before ks holds
 
-pub gone_first : (x : code.Course) (holds : Bool) (old : State) (fs : List Frame) → AllByRecursion (IsSoundFrame (length x.phases.now)) fs → GoneSoFar x holds old fs old fs
+pub gone_first : (x : code.Course) (holds : Bool) (old : StepState) (fs : List Frame) → AllByRecursion (IsSoundFrame (length x.phases.now)) fs → GoneSoFar x holds old fs old fs
 gone_first x holds old fs sound = record { only = only_none old; sound = sound; goes = λ found new ks g. g }
 
-module _ (x : code.Course) (holds : Bool) (old now : State) (before fs : List Frame) (so : GoneSoFar x holds old before now fs) where
-  pub gone_more : (frame : Frame) (mid : State) (gs hs : List Frame) → fs ≡ gs ++ frame ∷ [] → mid ≡ now → OnlyVariables now mid → AllByRecursion (IsSoundFrame (length x.phases.now)) hs → FollowsFrame x frame holds None now mid gs hs
+module _ (x : code.Course) (holds : Bool) (old now : StepState) (before fs : List Frame) (so : GoneSoFar x holds old before now fs) where
+  pub gone_more : (frame : Frame) (mid : StepState) (gs hs : List Frame) → fs ≡ gs ++ frame ∷ [] → mid ≡ now → OnlyVariables now mid → AllByRecursion (IsSoundFrame (length x.phases.now)) hs → FollowsFrame x frame holds None now mid gs hs
       → GoneSoFar x holds old before mid hs
   gone_more frame mid gs hs is same only sound follows = record {
     only = only_then old now mid so.only only;
@@ -387,7 +387,7 @@ module _ (x : code.Course) (holds : Bool) (old now : State) (before fs : List Fr
     goes = λ found new ks g. so.goes found new ks (further_goes x holds found frame now mid new fs gs hs ks is same follows g);
   }
 
-  pub gone_to : (number : ℕ) (frame : Frame) (new : State) (gs hs : List Frame) → fs ≡ gs ++ frame ∷ [] → FollowsFrame x frame holds (Some number) now new gs hs → GoesOn x (Some number) old new before hs holds
+  pub gone_to : (number : ℕ) (frame : Frame) (new : StepState) (gs hs : List Frame) → fs ≡ gs ++ frame ∷ [] → FollowsFrame x frame holds (Some number) now new gs hs → GoesOn x (Some number) old new before hs holds
   gone_to number frame new gs hs is follows = so.goes (Some number) new hs (some_goes x holds number frame now new fs gs hs is follows)
 
   pub gone_over : (ks : List Frame) → fs ≡ [] → GoesOn x None old now before ks holds

@@ -24,7 +24,7 @@ use Rattle.dh_phases.specs.declared.gathering.Phase.TheVariants as variant
 use Rattle.dh_phases.specs.GatheredPhases.{AllGathered, Gathered, Header, Numbered, all_gathered, choice_phase, header_of, header_seen, loop_phase, numbered_seen, phase_seen, phases_seen, straight_phase, turns_phase}
 use Rattle.dh_phases.specs.MatchedPhases.{MatchCommands}
 use Rattle.dh_phases.proofs.SeenPhases.{choice_is, loop_is, turns_is}
-use Rattle.dh_code.specs.declared.codes.Flat.{Flat}
+use Rattle.dh_code.specs.declared.codes.FlatExpression.{FlatExpression}
 use Rattle.dh_code.specs.declared.flattening.Names.{Names}
 use Rattle.dh_code.specs.Coded.{AreCoded, AreSlotsOf, ExtendsCode, IsFlat}
 use Rattle.dh_code.specs.Declarations.{factors_inside}
@@ -37,10 +37,10 @@ use Rattle.dh_code.specs.Suited.{IsSuited}
 use Rattle.dh_code.proofs.CommandForms.{flat_held, flat_is}
 use Rattle.dh_code.proofs.CommandsCoded.{adds_extend, extends_none, flat_stays, held_stays, sound_added}
 use Rattle.dh_code.proofs.MadeParts.{made_done}
-use Rattle.dh_sem.specs.declared.holding.Made.{Made}
-use Rattle.dh_sem.specs.declared.phases.Form.{Form}
-use Rattle.dh_sem.specs.declared.phases.Form.TheVariants as formed
-use Rattle.dh_sem.specs.declared.phases.Phase.{Phase}
+use Rattle.dh_sem.specs.declared.holding.MadeRun.{MadeRun}
+use Rattle.dh_sem.specs.declared.phases.PhaseForm.{PhaseForm}
+use Rattle.dh_sem.specs.declared.phases.PhaseForm.TheVariants as formed
+use Rattle.dh_sem.specs.declared.phases.HeldPhase.{HeldPhase}
 use Rattle.dh_sem.specs.declared.phases.Turns.{Turns}
 use Rattle.dh_sem.specs.Held.{FixesForm, HoldsTestCode, HoldsList, IsSoundMade, MoreMade, course_made, turns_counted}
 use Rattle.dh_sem.specs.Lanes.{LeadsInside, MoreLanes}
@@ -49,7 +49,7 @@ use Rattle.dh_sem.specs.Runnable.{CanRunAll, CanTurn}
 use Rattle.dh_sem.proofs.PhasesKept.{earlier_later, leads_still, linked_still, longer, made_then, phases_stay, tested_still, there_later, within_more}
 
 -- where no phase is held, a course stays sound
-course_still : (a b : Made) → MoreMade a b → b.phases.items ≡ a.phases.items → IsSoundCourse (course_made a) → IsSoundCourse (course_made b)
+course_still : (a b : MadeRun) → MoreMade a b → b.phases.items ≡ a.phases.items → IsSoundCourse (course_made a) → IsSoundCourse (course_made b)
 course_still a b h same s = record {
   links = record { each = λ at phase get. linked at phase (s.links.each at phase (ap (λ l. slice_get l at) (sym same) ∙ get)) };
   tests = λ at phase get. tested_still a b h phase.form (s.tests at phase (ap (λ l. slice_get l at) (sym same) ∙ get));
@@ -58,7 +58,7 @@ course_still a b h same s = record {
     equal : (n : ℕ) → n ≤ n
     equal n = omega arith
 
-    linked : (at : ℕ) (phase : Phase) → IsLinkedPhase a.lanes.items at phase → IsLinkedPhase b.lanes.items at phase
+    linked : (at : ℕ) (phase : HeldPhase) → IsLinkedPhase a.lanes.items at phase → IsLinkedPhase b.lanes.items at phase
     linked at phase l = record {
       form = linked_still a b h at at phase.form (equal at) l.form;
       next = l.next;
@@ -66,12 +66,12 @@ course_still a b h same s = record {
     }
 
 -- more code alone
-more_code : (a b : Made) → ExtendsCode a.code b.code → b.phases.items ≡ a.phases.items → b.lanes.items ≡ a.lanes.items → MoreMade a b
+more_code : (a b : MadeRun) → ExtendsCode a.code b.code → b.phases.items ≡ a.phases.items → b.lanes.items ≡ a.lanes.items → MoreMade a b
 more_code a b e phases lanes = record { code = e; phases = []; are = phases ∙ sym (append-nil a.phases.items); lanes = record { more = []; are = lanes ∙ sym (append-nil a.lanes.items) } }
 
 -- A phase of the code by what is seen of it; its lists as the code goes along them.
 
-pub fixed_as : (names : Names) (paths : ℕ) (old new : Made) (phase : gathering.Phase) (gathered : Gathered) (form : Form) → phase_seen phase ≡ gathered → FixesForm names paths old new gathered form → FixesForm names paths old new (phase_seen phase) form
+pub fixed_as : (names : Names) (paths : ℕ) (old new : MadeRun) (phase : gathering.Phase) (gathered : Gathered) (form : PhaseForm) → phase_seen phase ≡ gathered → FixesForm names paths old new gathered form → FixesForm names paths old new (phase_seen phase) form
 fixed_as names paths old new phase gathered form seen h = subst (λ (g : Gathered). FixesForm names paths old new g form) (sym seen) h
 
 pub turns_seen : (phase : gathering.Phase) (c : NumberedCommand) (header : Bor LoopHeader) (count : ℕ) (body : Vec gathering.Phase Global) (seen : List gathering.Phase) → phase ≡ variant.Turns c header count body → seen ≡ body.items
@@ -99,7 +99,7 @@ commands_are [] (l ∷ ls) e = absurd e
 commands_are (c ∷ cs) [] e = absurd e
 commands_are (c ∷ cs) (l ∷ ls) e = ap (λ a. a ∷ map (λ l. l.command) ls) (sym e.0.command) ∙ ap (λ rest. action_seen c.command.now ∷ rest) (commands_are cs ls e.1)
 
-pub straight_fixed : (names : Names) (paths : ℕ) (old new : Made) (cs : List NumberedCommand) (commands : List (Bor Command)) (list : Option ℕ) → commands ≡ map (λ c. c.command) cs → FlattensCommands names old.code new.code commands list
+pub straight_fixed : (names : Names) (paths : ℕ) (old new : MadeRun) (cs : List NumberedCommand) (commands : List (Bor Command)) (list : Option ℕ) → commands ≡ map (λ c. c.command) cs → FlattensCommands names old.code new.code commands list
     → new.phases.items ≡ old.phases.items → new.lanes.items ≡ old.lanes.items → FixesForm names paths old new (straight_phase (map numbered_seen cs)) (formed.Straight list)
 straight_fixed names paths old new cs commands list are flattens phases lanes p factors (turns loop count body) placing alike turned can = absurd alike
 straight_fixed names paths old new cs commands list are flattens phases lanes p factors (repeated loop body) placing alike turned can = absurd alike
@@ -121,7 +121,7 @@ straight_fixed names paths old new cs commands list are flattens phases lanes p 
 tested_by : (known : Known) (c : Located) (t : Term) → Some t ≡ test_of (action_form_of c.command) → core_test known c ≡ core_term known c.first t
 tested_by known c t is = ap (λ o. core_test_of known c.first o) (sym is)
 
-module _ (names : Names) (p : Placing) (placing : IsPlacingOf p names) (old new : Made) (test : Expr) (f : Flat) (n : ℕ) (t : CoreTerm) (is : t ≡ core_term (known_by_names names) n (term_seen test)) (h : HoldsTestCode names old new test f) (suits : IsSuited (table_in names) t) where
+module _ (names : Names) (p : Placing) (placing : IsPlacingOf p names) (old new : MadeRun) (test : Expr) (f : FlatExpression) (n : ℕ) (t : CoreTerm) (is : t ≡ core_term (known_by_names names) n (term_seen test)) (h : HoldsTestCode names old new test f) (suits : IsSuited (table_in names) t) where
   abbrev written : CoreTerm
   written = core_term (known_by_names names) n (term_seen test)
 
@@ -146,7 +146,7 @@ module _ (names : Names) (p : Placing) (placing : IsPlacingOf p names) (old new 
   )
 
 -- a `while`
-pub loop_fixed : (names : Names) (paths : ℕ) (old coded new : Made) (c : Numbered) (test : Expr) (gathered : AllGathered) (f : Flat) (first : Option ℕ) → HoldsTestCode names old coded test f → HoldsList names paths coded new gathered first
+pub loop_fixed : (names : Names) (paths : ℕ) (old coded new : MadeRun) (c : Numbered) (test : Expr) (gathered : AllGathered) (f : FlatExpression) (first : Option ℕ) → HoldsTestCode names old coded test f → HoldsList names paths coded new gathered first
     → FixesForm names paths old new (loop_phase c (Some (term_seen test)) gathered) (formed.Loop f first)
 loop_fixed names paths old coded new c test gathered f first tests holds p factors (straight ls) placing alike turned can = absurd alike
 loop_fixed names paths old coded new c test gathered f first tests holds p factors (turns loop count body) placing alike turned can = absurd alike
@@ -168,7 +168,7 @@ loop_fixed names paths old coded new c test gathered f first tests holds p facto
     }
 
 -- an `if` of which an arm is not straight
-pub choice_fixed : (names : Names) (paths : ℕ) (old coded between new : Made) (c : Numbered) (test : Expr) (gathered gathered' : AllGathered) (f : Flat) (one two : Option ℕ) → HoldsTestCode names old coded test f
+pub choice_fixed : (names : Names) (paths : ℕ) (old coded between new : MadeRun) (c : Numbered) (test : Expr) (gathered gathered' : AllGathered) (f : FlatExpression) (one two : Option ℕ) → HoldsTestCode names old coded test f
     → HoldsList names paths coded between gathered one → HoldsList names paths between new gathered' two → FixesForm names paths old new (choice_phase c (Some (term_seen test)) gathered gathered') (formed.Choice f one two)
 choice_fixed names paths old coded between new c test gathered gathered' f one two tests holds holds' p factors (straight ls) placing alike turned can = absurd alike
 choice_fixed names paths old coded between new c test gathered gathered' f one two tests holds holds' p factors (turns loop count body) placing alike turned can = absurd alike
@@ -227,7 +227,7 @@ turning_is known count h (plain.repeats test body) e = absurd cc
 few_paths : (m : ℕ) → m ≤ 256 → m ≤ 2 ^ 32
 few_paths m e = omega (arith, e)
 
-module _ (names : Names) (paths within : ℕ) (old start new : Made) (h : Header) (count : ℕ) (gathered : AllGathered) (body : Option ℕ)
+module _ (names : Names) (paths within : ℕ) (old start new : MadeRun) (h : Header) (count : ℕ) (gathered : AllGathered) (body : Option ℕ)
     (code : start.code ≡ old.code) (phases : start.phases.items ≡ old.phases.items) (lanes : MoreLanes old.lanes.items start.lanes.items) (inside : LeadsInside old.lanes.items start.lanes.items paths h.factor within) (holds : HoldsList names within start new gathered body) where
   abbrev made : Turns
   made = turns_counted names.places.now h count body within

@@ -9,16 +9,16 @@ use Rattle.dh_meaning.specs.Core.{Turning, CorePhase, straightly, turning, loopi
 use Rattle.dh_meaning.specs.Effects.{Variables}
 use Rattle.dh_meaning.specs.Paths.{Path, all_copies, outer_paths, paths_in}
 use Rattle.dh_meaning.specs.Runs.{RunNext, RunTodo, phases_then, turn_then, test_then, pick_then, enter, inner_paths, turn_begun}
-use Rattle.dh_code.specs.declared.running.State.{State}
+use Rattle.dh_code.specs.declared.running.StepState.{StepState}
 use Rattle.dh_code.specs.Declarations.{factors_inside}
 use Rattle.dh_code.specs.Slots.{Holds, Placing}
 use Rattle.dh_code.proofs.PathsInOrder.{paths_snoc}
 use Rattle.dh_sem.specs.declared.lanes.Lanes.{Lanes}
-use Rattle.dh_sem.specs.declared.phases.Form.{Form}
-use Rattle.dh_sem.specs.declared.phases.Form.TheVariants.{Straight, Turns, Loop, Choice}
+use Rattle.dh_sem.specs.declared.phases.PhaseForm.{PhaseForm}
+use Rattle.dh_sem.specs.declared.phases.PhaseForm.TheVariants.{Straight, Turns, Loop, Choice}
 use Rattle.dh_sem.specs.declared.phases.Frame.{Frame}
 use Rattle.dh_sem.specs.declared.phases.Frame.TheVariants.{List as Rest, Turn, Test, Pick}
-use Rattle.dh_sem.specs.declared.phases.Phase.{Phase}
+use Rattle.dh_sem.specs.declared.phases.HeldPhase.{HeldPhase}
 use Rattle.dh_sem.specs.declared.phases.Turns as turns
 use Rattle.dh_sem.specs.declared.stepping.Course as code
 use Rattle.dh_sem.specs.Frames.{AreToCome, IsFirst, BeginsWithoutTest, StandsFor}
@@ -42,7 +42,7 @@ module _ (table : List MemEntry) (p : Placing) (c : Course) where
   come_more fs gs f k behind is first settled come = subst (λ (l : List Frame). AreToCome table p c l k) (sym (ap (λ l. reverse l) is ∙ reverse-append fs (f ∷ []))) (behind, (first, (settled, come)))
 
   -- a list that begins at a phase
-  pub record Enters (factors : List ℕ) (number : ℕ) (phase : Phase) (qs : CorePhases) : Type 0 where
+  pub record Enters (factors : List ℕ) (number : ℕ) (phase : HeldPhase) (qs : CorePhases) : Type 0 where
     pub first : CorePhase
     pub rest : CorePhases
     pub is : qs ≡ phase_and first rest
@@ -50,7 +50,7 @@ module _ (table : List MemEntry) (p : Placing) (c : Course) where
     pub does : IsPhase table p c factors number phase.form first
     pub later : ArePhases table p c factors phase.next rest
 
-  pub enters_of : (factors : List ℕ) (list : Option ℕ) (number : ℕ) (phase : Phase) (qs : CorePhases) → ArePhases table p c factors list qs → list ≡ Some number → slice_get c.phases number ≡ Some phase → Enters factors number phase qs
+  pub enters_of : (factors : List ℕ) (list : Option ℕ) (number : ℕ) (phase : HeldPhase) (qs : CorePhases) → ArePhases table p c factors list qs → list ≡ Some number → slice_get c.phases number ≡ Some phase → Enters factors number phase qs
   enters_of factors list number phase qs are is get = by qs (subst (λ (l : Option ℕ). ArePhases table p c factors l qs) is are)
     where
       by : (qs : CorePhases) → ArePhases table p c factors (Some number) qs → Enters factors number phase qs
@@ -61,9 +61,9 @@ module _ (table : List MemEntry) (p : Placing) (c : Course) where
             first = q;
             rest = qs;
             is = refl;
-            lanes = subst (λ (x : Phase). LeadsInto c.lanes x.paths factors) same lanes;
-            does = subst (λ (x : Phase). IsPhase table p c factors number x.form q) same does;
-            later = subst (λ (x : Phase). ArePhases table p c factors x.next qs) same later;
+            lanes = subst (λ (x : HeldPhase). LeadsInto c.lanes x.paths factors) same lanes;
+            does = subst (λ (x : HeldPhase). IsPhase table p c factors number x.form q) same does;
+            later = subst (λ (x : HeldPhase). ArePhases table p c factors x.next qs) same later;
           }
 
   pub nothing_of : (factors : List ℕ) (list : Option ℕ) (qs : CorePhases) → ArePhases table p c factors list qs → list ≡ None → qs ≡ no_core_phases
@@ -74,7 +74,7 @@ module _ (table : List MemEntry) (p : Placing) (c : Course) where
       by (phase_and q qs) h = absurd h
 
   -- into a phase whose block comes first
-  module _ (factors : List ℕ) (number : ℕ) (phase : Phase) (get : slice_get c.phases number ≡ Some phase) (qs : CorePhases) (e : Enters factors number phase qs) (k : RunTodo) (behind : RunNext) (v : Variables) (new : State)
+  module _ (factors : List ℕ) (number : ℕ) (phase : HeldPhase) (get : slice_get c.phases number ≡ Some phase) (qs : CorePhases) (e : Enters factors number phase qs) (k : RunTodo) (behind : RunNext) (v : Variables) (new : StepState)
       (fs gs : List Frame) (pushed : gs ≡ fs ++ Rest phase.next ∷ []) (settled : BeginsWithoutTest k) (come : AreToCome table p c (reverse fs) k) (h : Holds p new.variables.items v) where
     abbrev paths : List Path
     paths = paths_in factors
@@ -89,7 +89,7 @@ module _ (table : List MemEntry) (p : Placing) (c : Course) where
     moved n is a = subst (λ (m : RunNext). Arrives table p c m new (Some number) gs) (sym (ap (λ l. enter paths l k behind v) e.is ∙ is)) a
 
     pub into_straight : (list : Option ℕ) → phase.form ≡ Straight list → Arrives table p c (enter paths qs k behind v) new (Some number) gs
-    into_straight list is = subst (λ (l : CorePhases). Arrives table p c (enter paths l k behind v) new (Some number) gs) (sym e.is) (by e.first e.does (subst (λ (f : Form). IsPhase table p c factors number f e.first) is e.does))
+    into_straight list is = subst (λ (l : CorePhases). Arrives table p c (enter paths l k behind v) new (Some number) gs) (sym e.is) (by e.first e.does (subst (λ (f : PhaseForm). IsPhase table p c factors number f e.first) is e.does))
       where
         by : (q : CorePhase) → IsPhase table p c factors number phase.form q → IsPhase table p c factors number (Straight list) q → Arrives table p c (enter paths (phase_and q e.rest) k behind v) new (Some number) gs
         by (straightly cs) does h' = record { variables = h; place = (factors, (straightly cs, (refl, (stands (straightly cs) does, (refl, (tt, rest_comes)))))) }
@@ -97,7 +97,7 @@ module _ (table : List MemEntry) (p : Placing) (c : Course) where
         by (looping test body) does h' = absurd h'
         by (choosing test chosen other) does h' = absurd h'
 
-  module _ (factors : List ℕ) (number : ℕ) (phase : Phase) (get : slice_get c.phases number ≡ Some phase) (qs : CorePhases) (e : Enters factors number phase qs) (k : RunTodo) (behind : RunNext) (v : Variables) (new : State)
+  module _ (factors : List ℕ) (number : ℕ) (phase : HeldPhase) (get : slice_get c.phases number ≡ Some phase) (qs : CorePhases) (e : Enters factors number phase qs) (k : RunTodo) (behind : RunNext) (v : Variables) (new : StepState)
       (fs gs is_gs : List Frame) (f : Frame) (pushed : gs ≡ fs ++ Rest phase.next ∷ []) (pushed' : is_gs ≡ gs ++ f ∷ []) (settled : BeginsWithoutTest k) (come : AreToCome table p c (reverse fs) k) (h : Holds p new.variables.items v) where
     abbrev paths_here : List Path
     paths_here = paths_in factors
@@ -112,7 +112,7 @@ module _ (table : List MemEntry) (p : Placing) (c : Course) where
     rest_behind = come_more fs gs (Rest phase.next) rest_then k pushed (factors, (refl, (refl, e.later))) settled come
 
     pub into_loop : (test : _) (list : Option ℕ) → phase.form ≡ Loop test list → f ≡ Test number → Arrives table p c (enter paths_here qs k behind v) new (Some number) is_gs
-    into_loop test list is frame = subst (λ (l : CorePhases). Arrives table p c (enter paths_here l k behind v) new (Some number) is_gs) (sym e.is) (by e.first e.does (subst (λ (g : Form). IsPhase table p c factors number g e.first) is e.does))
+    into_loop test list is frame = subst (λ (l : CorePhases). Arrives table p c (enter paths_here l k behind v) new (Some number) is_gs) (sym e.is) (by e.first e.does (subst (λ (g : PhaseForm). IsPhase table p c factors number g e.first) is e.does))
       where
         by : (q : CorePhase) → IsPhase table p c factors number phase.form q → IsPhase table p c factors number (Loop test list) q → Arrives table p c (enter paths_here (phase_and q e.rest) k behind v) new (Some number) is_gs
         by (straightly cs) does h' = absurd h'
@@ -142,7 +142,7 @@ module _ (table : List MemEntry) (p : Placing) (c : Course) where
         by (choosing t chosen other) does h' = absurd h'
 
     pub into_choice : (test : _) (one two : Option ℕ) → phase.form ≡ Choice test one two → f ≡ Pick number → Arrives table p c (enter paths_here qs k behind v) new (Some number) is_gs
-    into_choice test one two is frame = subst (λ (l : CorePhases). Arrives table p c (enter paths_here l k behind v) new (Some number) is_gs) (sym e.is) (by e.first e.does (subst (λ (g : Form). IsPhase table p c factors number g e.first) is e.does))
+    into_choice test one two is frame = subst (λ (l : CorePhases). Arrives table p c (enter paths_here l k behind v) new (Some number) is_gs) (sym e.is) (by e.first e.does (subst (λ (g : PhaseForm). IsPhase table p c factors number g e.first) is e.does))
       where
         by : (q : CorePhase) → IsPhase table p c factors number phase.form q → IsPhase table p c factors number (Choice test one two) q → Arrives table p c (enter paths_here (phase_and q e.rest) k behind v) new (Some number) is_gs
         by (straightly cs) does h' = absurd h'
@@ -175,19 +175,19 @@ module _ (table : List MemEntry) (p : Placing) (c : Course) where
 some_turn : (n : ℕ) → 1 ≤ n → (n == 0) ≡ false
 some_turn n e = grind (arith, nat_tests)
 
-pub some_leads : (body list found : Option ℕ) (a b a' b' : State) (fs gs fs' gs' : List Frame) → IsSome body → NowhereIfNone body found a b fs gs → NowhereIfNone list found a' b' fs' gs'
+pub some_leads : (body list found : Option ℕ) (a b a' b' : StepState) (fs gs fs' gs' : List Frame) → IsSome body → NowhereIfNone body found a b fs gs → NowhereIfNone list found a' b' fs' gs'
 some_leads body list None a b a' b' fs gs fs' gs' some h = absurd (subst IsSome h.list_is some)
 some_leads body list (Some n) a b a' b' fs gs fs' gs' some h = tt
 
 module _ (x : code.Course) where
   -- a list that begins with turns
-  pub descends_turns : (list body found : Option ℕ) (number : ℕ) (phase : Phase) (t : turns.Turns) (lanes : Lanes) (old mid new : State) (fs gs hs ks : List Frame) → list ≡ Some number → slice_get x.phases.now number ≡ Some phase → phase.form ≡ Turns t
+  pub descends_turns : (list body found : Option ℕ) (number : ℕ) (phase : HeldPhase) (t : turns.Turns) (lanes : Lanes) (old mid new : StepState) (fs gs hs ks : List Frame) → list ≡ Some number → slice_get x.phases.now number ≡ Some phase → phase.form ≡ Turns t
       → slice_get x.lanes.now t.inside ≡ Some lanes → BeginsTurn old mid lanes t 0 → gs ≡ fs ++ Rest phase.next ∷ [] → hs ≡ gs ++ Turn number 0 ∷ [] → Descends x t.body found mid new hs ks → Descends x list found old new fs ks
   descends_turns list body found number phase t lanes old mid new fs gs hs ks is get form in_lanes begun pushed pushed' d table p made factors qs k behind v are come settled h =
       let c = course_of made x in
       let e = enters_of table p c factors list number phase qs are is get in
       subst (λ (l : CorePhases). DescendsTo table p c found new ks (enter (paths_in factors) l k behind v)) (sym e.is)
-      (by e e.first e.does (subst (λ (g : Form). IsPhase table p c factors number g e.first) form e.does))
+      (by e e.first e.does (subst (λ (g : PhaseForm). IsPhase table p c factors number g e.first) form e.does))
     where
       by : (e : Enters table p (course_of made x) factors number phase qs) (q : CorePhase) → IsPhase table p (course_of made x) factors number phase.form q → IsPhase table p (course_of made x) factors number (Turns t) q
           → DescendsTo table p (course_of made x) found new ks (enter (paths_in factors) (phase_and q e.rest) k behind v)

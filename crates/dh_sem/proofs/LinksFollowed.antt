@@ -3,8 +3,8 @@ use Rattle.std.proofs.Common.{◌≡◌, ℕ, ◌+◌, ◌*◌, ◌-◌, ◌^◌
 use Rattle.std.specs.Prelude.{Option}
 use Rattle.std.proofs.Math.Nat.{mul-le-mul_left, mul-le-mul_right}
 use Rattle.dh_sem.specs.declared.lanes.Lanes.{Lanes}
-use Rattle.dh_sem.specs.declared.phases.Form.{Form}
-use Rattle.dh_sem.specs.declared.phases.Form.TheVariants.{Straight, Turns, Loop, Choice}
+use Rattle.dh_sem.specs.declared.phases.PhaseForm.{PhaseForm}
+use Rattle.dh_sem.specs.declared.phases.PhaseForm.TheVariants.{Straight, Turns, Loop, Choice}
 use Rattle.dh_sem.specs.declared.phases.Turns as turns
 use Rattle.dh_sem.specs.Phased.{IsLinked, IsLinkedTurns, taken_branch, turns_in}
 use Rattle.dh_code.specs.Scenes.{IsEarlier}
@@ -31,7 +31,7 @@ earlier_on m n (Some k) h e = later k h e
 pub number_there : (count n : ℕ) (list : Option ℕ) → list ≡ Some n → IsEarlier count list → n < count
 number_there count n list is h = subst (λ (l : Option ℕ). IsEarlier count l) is h
 
-pub linked_turns : (lanes : List Lanes) (number : ℕ) (form : Form) (t : turns.Turns) → turns_in form ≡ Some t → IsLinked lanes number form → IsLinkedTurns lanes number t
+pub linked_turns : (lanes : List Lanes) (number : ℕ) (form : PhaseForm) (t : turns.Turns) → turns_in form ≡ Some t → IsLinked lanes number form → IsLinkedTurns lanes number t
 linked_turns lanes number (Straight list) t e h = absurd cc
 linked_turns lanes number (Turns u) t e h = subst (λ (w : turns.Turns). IsLinkedTurns lanes number w) (same u t e) h
   where
@@ -40,7 +40,7 @@ linked_turns lanes number (Turns u) t e h = subst (λ (w : turns.Turns). IsLinke
 linked_turns lanes number (Loop f list) t e h = absurd cc
 linked_turns lanes number (Choice f one two) t e h = absurd cc
 
-pub arm_earlier : (lanes : List Lanes) (number count : ℕ) (form : Form) (holds : Bool) → number < count → IsLinked lanes number form → IsEarlier count (taken_branch form holds)
+pub arm_earlier : (lanes : List Lanes) (number count : ℕ) (form : PhaseForm) (holds : Bool) → number < count → IsLinked lanes number form → IsEarlier count (taken_branch form holds)
 arm_earlier lanes number count (Straight list) holds h l = tt
 arm_earlier lanes number count (Turns t) holds h l = tt
 arm_earlier lanes number count (Loop f list) holds h l = earlier_on number count list h l

@@ -20,9 +20,9 @@ use Rattle.dh_code.specs.Flattening.{known_by_names, table_in}
 use Rattle.dh_code.specs.Scenes.{IsSoundCode, IsEarlier}
 use Rattle.dh_code.specs.Slots.{Placing}
 use Rattle.dh_code.proofs.CommandsCoded.{extends_none, get_last}
-use Rattle.dh_sem.specs.declared.holding.Made.{Made}
-use Rattle.dh_sem.specs.declared.phases.Form.{Form}
-use Rattle.dh_sem.specs.declared.phases.Phase.{Phase}
+use Rattle.dh_sem.specs.declared.holding.MadeRun.{MadeRun}
+use Rattle.dh_sem.specs.declared.phases.PhaseForm.{PhaseForm}
+use Rattle.dh_sem.specs.declared.phases.HeldPhase.{HeldPhase}
 use Rattle.dh_sem.specs.Held.{CanBeHeld, Fixes, FixesForm, HoldsAll, HoldsList, HoldsPhases, IsSoundMade, MoreMade}
 use Rattle.dh_sem.specs.Phased.{IsLinkedPhase, TestIsHeld}
 use Rattle.dh_sem.proofs.PhasesKept.{earlier_later, leads_still, linked_still, made_none, made_then, phase_stays, phases_stay, tested_still, there_later}
@@ -39,9 +39,9 @@ at_end {A = A} (z ∷ xs) x y (suc i) e = by (at_end xs x y i e)
     by (inr g) = inr (ap suc g.0, g.1)
 
 -- one phase more
-module _ (names : Names) (paths : ℕ) (old now mid new : Made) (all : AllGathered) (gathered : Gathered) (form : Form) (next : Option ℕ) (rest : HoldsList names paths old now all next) (fixes : FixesForm names paths now mid gathered form)
+module _ (names : Names) (paths : ℕ) (old now mid new : MadeRun) (all : AllGathered) (gathered : Gathered) (form : PhaseForm) (next : Option ℕ) (rest : HoldsList names paths old now all next) (fixes : FixesForm names paths now mid gathered form)
     (code : new.code ≡ mid.code) (lanes : new.lanes.items ≡ mid.lanes.items) (are : new.phases.items ≡ mid.phases.items ++ record { form = form; next = next; paths = paths } ∷ []) where
-  abbrev held : Phase
+  abbrev held : HeldPhase
   held = record { form = form; next = next; paths = paths }
 
   pushed : MoreMade mid new
@@ -68,17 +68,17 @@ module _ (names : Names) (paths : ℕ) (old now mid new : Made) (all : AllGather
       more : (m : ℕ) → m < length mid.lanes.items → m < length new.lanes.items
       more m e = subst (λ l. m < length l) (sym lanes) e
 
-      link : (at : ℕ) (phase : Phase) → (slice_get mid.phases.items at ≡ Some phase) ⊎ ((at ≡ length mid.phases.items) × (held ≡ phase)) → IsLinkedPhase new.lanes.items at phase
+      link : (at : ℕ) (phase : HeldPhase) → (slice_get mid.phases.items at ≡ Some phase) ⊎ ((at ≡ length mid.phases.items) × (held ≡ phase)) → IsLinkedPhase new.lanes.items at phase
       link at phase (inl e) =
           let l = s.course.links.each at phase e in
           record { form = linked_still mid new pushed at at phase.form (equal at) l.form; next = l.next; paths = more phase.paths l.paths }
       link at phase (inr e) =
-          subst (λ (n : ℕ). IsLinkedPhase new.lanes.items n phase) (sym e.0) (subst (λ (f : Phase). IsLinkedPhase new.lanes.items (length mid.phases.items) f) e.1
+          subst (λ (n : ℕ). IsLinkedPhase new.lanes.items n phase) (sym e.0) (subst (λ (f : HeldPhase). IsLinkedPhase new.lanes.items (length mid.phases.items) f) e.1
           (record { form = linked_still mid new pushed (length mid.phases.items) (length mid.phases.items) form (equal (length mid.phases.items)) can.linked; next = earlier; paths = more paths there }))
 
-      test : (at : ℕ) (phase : Phase) → (slice_get mid.phases.items at ≡ Some phase) ⊎ ((at ≡ length mid.phases.items) × (held ≡ phase)) → TestIsHeld new.code.operations phase.form
+      test : (at : ℕ) (phase : HeldPhase) → (slice_get mid.phases.items at ≡ Some phase) ⊎ ((at ≡ length mid.phases.items) × (held ≡ phase)) → TestIsHeld new.code.operations phase.form
       test at phase (inl e) = tested_still mid new pushed phase.form (s.course.tests at phase e)
-      test at phase (inr e) = subst (λ (f : Phase). TestIsHeld new.code.operations f.form) e.1 (tested_still mid new pushed form can.tested)
+      test at phase (inr e) = subst (λ (f : HeldPhase). TestIsHeld new.code.operations f.form) e.1 (tested_still mid new pushed form can.tested)
 
   -- in front of those of the list
   in_front : (p : Placing) (factors : List ℕ) (q : source.Phase) (qs : source.Phases) → HoldsPhases names p factors paths old now next qs → Fixes names p factors paths now mid form q → HoldsPhases names p factors paths old new (Some (length mid.phases.items)) (source.phase q qs)
@@ -120,21 +120,21 @@ module _ (names : Names) (paths : ℕ) (old now mid new : Made) (all : AllGather
   holds_more p factors source.no_phases placing alike turned can = absurd alike
   holds_more p factors (source.phase q qs) placing alike turned can = in_front p factors q qs (rest p factors qs placing alike.1 turned.1 can.1) (fixes p factors q placing alike.0 turned.0 can.0)
 
-holds_none : (names : Names) (paths : ℕ) (m : Made) → HoldsList names paths m m none_gathered None
+holds_none : (names : Names) (paths : ℕ) (m : MadeRun) → HoldsList names paths m m none_gathered None
 holds_none names paths m p factors source.no_phases placing alike turned can = record { more = made_none m; earlier = tt; begins = λ some_phase. absurd some_phase; sound = λ memories there s. s; means = λ leads. tt }
 holds_none names paths m p factors (source.phase q qs) placing alike turned can = absurd alike
 
 -- By what the code goes along.
-abbrev pub HoldsFrom : Names → (paths : ℕ) → (old now : Made) → List gathering.Phase → (i : ℕ) → (next : Option ℕ) → Type 0
+abbrev pub HoldsFrom : Names → (paths : ℕ) → (old now : MadeRun) → List gathering.Phase → (i : ℕ) → (next : Option ℕ) → Type 0
 HoldsFrom names paths old now ps i next = HoldsList names paths old now (all_gathered (phases_seen (drop i ps))) next
 
-pub hold_begin : (names : Names) (paths : ℕ) (m : Made) (ps : List gathering.Phase) → HoldsFrom names paths m m ps (length ps) None
+pub hold_begin : (names : Names) (paths : ℕ) (m : MadeRun) (ps : List gathering.Phase) → HoldsFrom names paths m m ps (length ps) None
 hold_begin names paths m ps = subst (λ (l : List gathering.Phase). HoldsList names paths m m (all_gathered (phases_seen l)) None) (sym (drop_all (length ps) ps (equal (length ps)))) (holds_none names paths m)
   where
     equal : (n : ℕ) → n ≤ n
     equal n = omega arith
 
-pub hold_turn : (names : Names) (paths : ℕ) (old now mid new : Made) (ps : List gathering.Phase) (i : ℕ) (x : gathering.Phase) (form : Form) (next : Option ℕ) (at : ℕ) → 0 < i → i ≤ length ps → x ≡ get_or ps (i - 1) x → FixesForm names paths now mid (phase_seen x) form
+pub hold_turn : (names : Names) (paths : ℕ) (old now mid new : MadeRun) (ps : List gathering.Phase) (i : ℕ) (x : gathering.Phase) (form : PhaseForm) (next : Option ℕ) (at : ℕ) → 0 < i → i ≤ length ps → x ≡ get_or ps (i - 1) x → FixesForm names paths now mid (phase_seen x) form
     → new.code ≡ mid.code → new.lanes.items ≡ mid.lanes.items → new.phases.items ≡ mid.phases.items ++ record { form = form; next = next; paths = paths } ∷ [] → at ≡ length mid.phases.items
     → HoldsFrom names paths old now ps i next → HoldsFrom names paths old new ps (i - 1) (Some at)
 hold_turn names paths old now mid new ps i x form next at some_left within is fixes code lanes are counted h =
@@ -152,7 +152,7 @@ hold_turn names paths old now mid new ps i x form next at some_left within is fi
     last_left n e f same = drop-cons ps (n - 1) x (less n e f) ∙ (ap (λ y. y ∷ drop (suc (n - 1)) ps) (sym same) ∙ ap (λ m. x ∷ drop m ps) (back n e))
 
 -- a program's body
-pub holds_all : (names : Names) (old new : Made) (ps seen : List gathering.Phase) (body : Command) (first : Option ℕ) → seen ≡ ps → ((r : Around) → phases_seen ps ≡ gathered_list (phases r 0 (action_seen body))) → HoldsList names 0 old new (all_gathered (phases_seen seen)) first
+pub holds_all : (names : Names) (old new : MadeRun) (ps seen : List gathering.Phase) (body : Command) (first : Option ℕ) → seen ≡ ps → ((r : Around) → phases_seen ps ≡ gathered_list (phases r 0 (action_seen body))) → HoldsList names 0 old new (all_gathered (phases_seen seen)) first
     → HoldsAll names old new body first
 holds_all names old new ps seen body first same are h p placing can memories leads s =
     let qs = phases nothing_around 0 (action_seen body) in

@@ -13,10 +13,10 @@ use Rattle.dh_meaning.specs.Effects.{Begun, Block, Effect, Variables, block_run,
 use Rattle.dh_meaning.specs.Paths.{Path, paths_in}
 use Rattle.dh_meaning.specs.Runs.{RunNext, RunPlace, ended, at, RunState, RunTodo, begun_at, next_of, next_state, outcome_at, place_after, place_run, run_state, stands_at, state_after, step_effect, step_from}
 use Rattle.dh_code.specs.declared.codes.Code.{Code}
-use Rattle.dh_code.specs.declared.evaluating.Scene.{Scene}
-use Rattle.dh_code.specs.declared.evaluating.Stop.{Stop}
-use Rattle.dh_code.specs.declared.evaluating.Stop.TheVariants as stop
-use Rattle.dh_code.specs.declared.running.State.{State}
+use Rattle.dh_code.specs.declared.evaluating.StepContext.{StepContext}
+use Rattle.dh_code.specs.declared.evaluating.StepStop.{StepStop}
+use Rattle.dh_code.specs.declared.evaluating.StepStop.TheVariants as stop
+use Rattle.dh_code.specs.declared.running.StepState.{StepState}
 use Rattle.dh_code.specs.Plain.{all_plain}
 use Rattle.dh_code.specs.Rows.{contents_of}
 use Rattle.dh_code.specs.declared.spending.Bank.{Bank}
@@ -27,7 +27,7 @@ use Rattle.dh_code.specs.States.{IsReadyState, memories_written}
 use Rattle.dh_code.proofs.PlainStops.{stop_plain, written_is}
 use Rattle.dh_sem.specs.declared.lanes.Lanes.{Lanes}
 use Rattle.dh_sem.specs.declared.phases.Frame.{Frame}
-use Rattle.dh_sem.specs.declared.phases.Phase.{Phase}
+use Rattle.dh_sem.specs.declared.phases.HeldPhase.{HeldPhase}
 use Rattle.dh_sem.specs.declared.stepping.Course as code
 use Rattle.dh_sem.specs.Frames.{AreToCome, IsBlockOf, IsPlace, StandsFirst, StandsFor}
 use Rattle.dh_sem.specs.Phased.{Course, IsSoundFrame}
@@ -40,7 +40,7 @@ abbrev pub run_at : List MemEntry → Course → Outcome → (steps : ℕ) → (
 run_at table course outcome steps memories slots place frames =
     record { table = table; course = course; outcome = outcome; steps = steps; memories = memories; slots = slots; place = place; frames = frames }
 
-abbrev course_at : Code → List Phase → List Lanes → Course
+abbrev course_at : Code → List HeldPhase → List Lanes → Course
 course_at made phases lanes = record { code = made; phases = phases; lanes = lanes }
 
 -- a run that goes on stands at a block
@@ -116,7 +116,7 @@ stands_placed table c steps memories slots at' frames outcome p n is holds there
 }
 
 -- A run that goes on, at the block of a phase.
-module _ (s : Scene) (cc : code.Course) (old : State) (number : ℕ) (held frames : List Frame) (course : Course) (steps : ℕ) (memories : List (List ℕ)) (outcome : Outcome) (place : Option ℕ)
+module _ (s : StepContext) (cc : code.Course) (old : StepState) (number : ℕ) (held frames : List Frame) (course : Course) (steps : ℕ) (memories : List (List ℕ)) (outcome : Outcome) (place : Option ℕ)
     (coursed : course_seen s cc ≡ course) (listed : contents_of s.memories.now ≡ memories) (copied : held ≡ frames) (going : outcome ≡ Going) (there : place ≡ Some number) where
   abbrev before : InterpreterState
   before = record { table = s.entries.now; course = course; outcome = outcome; steps = steps; memories = memories; slots = old.variables.items; place = place; frames = frames }
@@ -159,7 +159,7 @@ module _ (s : Scene) (cc : code.Course) (old : State) (number : ℕ) (held frame
       }
 
   -- the step is done
-  module _ (at' : Option ℕ) (new : State) (gs left : List Frame) (memories' : List (List ℕ)) (outcome' : Outcome) (advances : Advances s cc old (Ok at') new number held gs)
+  module _ (at' : Option ℕ) (new : StepState) (gs left : List Frame) (memories' : List (List ℕ)) (outcome' : Outcome) (advances : Advances s cc old (Ok at') new number held gs)
       (made : memories' ≡ memories_written new.writes.items memories) (leads : outcome' ≡ place_outcome at') (moved : left ≡ gs) where
     abbrev done : InterpreterState
     done = record { table = s.entries.now; course = course; outcome = outcome'; steps = steps + 1; memories = memories'; slots = new.variables.items; place = at'; frames = left }
@@ -189,7 +189,7 @@ module _ (s : Scene) (cc : code.Course) (old : State) (number : ℕ) (held frame
     done_steps = (refl, λ p ms n h. stands_next p ms n before done refl h (done_stands (run_state (core_of p) ms n) h.stands))
 
   -- the step stops
-  module _ (o : Outcome) (new : State) (gs : List Frame) (advances : Advances s cc old (Err (stop.At o)) new number held gs) (back : new.variables.items ≡ old.variables.items) where
+  module _ (o : Outcome) (new : StepState) (gs : List Frame) (advances : Advances s cc old (Err (stop.At o)) new number held gs) (back : new.variables.items ≡ old.variables.items) where
     abbrev stopped : InterpreterState
     stopped = record { table = s.entries.now; course = course; outcome = o; steps = steps; memories = memories; slots = new.variables.items; place = place; frames = frames }
 
@@ -214,12 +214,12 @@ module _ (s : Scene) (cc : code.Course) (old : State) (number : ℕ) (held frame
     stop_steps : StepsOn before (Ok o) stopped
     stop_steps = (refl, λ p ms n h. stands_next p ms n before stopped refl h (stop_stands (run_state (core_of p) ms n) h.stands))
 
-pub coursed_as : (made : Code) (phases kept : List Phase) (lanes held : List Lanes) → phases ≡ kept → lanes ≡ held
+pub coursed_as : (made : Code) (phases kept : List HeldPhase) (lanes held : List Lanes) → phases ≡ kept → lanes ≡ held
     → ◌≡◌ {A = Course} (record { code = made; phases = phases; lanes = lanes }) (record { code = made; phases = kept; lanes = held })
 coursed_as made phases kept lanes held e f = ap (λ l. course_at made l lanes) e ∙ ap (λ l. course_at made kept l) f
 
 -- The step, as the interpreter sees it.
-module _ {s : Scene} {new : State} (ready : IsReadyState s new) (cc : code.Course) (old : State) (number : ℕ) (held frames gs : List Frame) (course : Course) (steps : ℕ) (memories : List (List ℕ)) (outcome : Outcome) (place : Option ℕ)
+module _ {s : StepContext} {new : StepState} (ready : IsReadyState s new) (cc : code.Course) (old : StepState) (number : ℕ) (held frames gs : List Frame) (course : Course) (steps : ℕ) (memories : List (List ℕ)) (outcome : Outcome) (place : Option ℕ)
     (coursed : course_seen s cc ≡ course) (listed : contents_of s.memories.now ≡ memories) (copied : held ≡ frames) (going : outcome ≡ Going) (there : place ≡ Some number) (now : InterpreterState)
     (viewed : run_at s.entries.now course outcome steps memories old.variables.items place frames ≡ now) where
   pub done_seen : (at' : Option ℕ) (left : List Frame) (memories' : List (List ℕ)) (outcome' : Outcome) → Advances s cc old (Ok at') new number held gs → memories' ≡ memories_written new.writes.items memories → outcome' ≡ place_outcome at' → left ≡ gs
@@ -228,13 +228,13 @@ module _ {s : Scene} {new : State} (ready : IsReadyState s new) (cc : code.Cours
       subst (λ (r : InterpreterState). StepsOn r (Ok outcome') (run_at s.entries.now course outcome' (steps + 1) memories' new.variables.items at' left)) viewed
       (done_steps s cc old number held frames course steps memories outcome place coursed listed copied going there at' new gs left memories' outcome' advances made leads moved)
 
-  pub stop_seen : (x : Stop) (o : Outcome) → x ≡ stop.At o → Advances s cc old (Err x) new number held gs → IsBack old new
+  pub stop_seen : (x : StepStop) (o : Outcome) → x ≡ stop.At o → Advances s cc old (Err x) new number held gs → IsBack old new
       → StepsOn now (Ok o) (run_at s.entries.now course o steps memories new.variables.items place frames)
   stop_seen x o is advances back =
       subst (λ (r : InterpreterState). StepsOn r (Ok o) (run_at s.entries.now course o steps memories new.variables.items place frames)) viewed
-      (stop_steps s cc old number held frames course steps memories outcome place coursed listed copied going there o new gs (subst (λ (x : Stop). Advances s cc old (Err x) new number held gs) is advances) back.variables)
+      (stop_steps s cc old number held frames course steps memories outcome place coursed listed copied going there o new gs (subst (λ (x : StepStop). Advances s cc old (Err x) new number held gs) is advances) back.variables)
 
-pub stop_is : (x : Stop) (o : Outcome) → stop_outcome x ≡ Some o → x ≡ stop.At o
+pub stop_is : (x : StepStop) (o : Outcome) → stop_outcome x ≡ Some o → x ≡ stop.At o
 stop_is (stop.At p) o e = ap stop.At (same e)
   where
     same : Some p ≡ Some o → p ≡ o
@@ -245,12 +245,12 @@ stop_is stop.NoMemory o e = absurd (never e)
     never e = absurd cc
 
 -- A run that can go on can still do so.
-module _ {s : Scene} {new : State} (ready : IsReadyState s new) (course : Course) (coded : s.code.now ≡ course.code) (o o' : Outcome) (steps : ℕ) (memories : List (List ℕ)) (slots : List ℕ) (place : Option ℕ) (frames : List Frame)
+module _ {s : StepContext} {new : StepState} (ready : IsReadyState s new) (course : Course) (coded : s.code.now ≡ course.code) (o o' : Outcome) (steps : ℕ) (memories : List (List ℕ)) (slots : List ℕ) (place : Option ℕ) (frames : List Frame)
     (given : List ℕ) (banks : List Bank) (firsts : List ℕ) (steady : IsSteady (run_at s.entries.now course o steps memories slots place frames) given banks firsts) where
   room_now : length course.code.operations ≤ length new.given.items
   room_now = subst (λ (c : Code). length c.operations ≤ length new.given.items) coded ready.room
 
-  pub steady_next : (phases : List Phase) (at' : Option ℕ) (gs left : List Frame) (memories' : List (List ℕ)) → phases ≡ course.phases → memories' ≡ memories_written new.writes.items memories → left ≡ gs
+  pub steady_next : (phases : List HeldPhase) (at' : Option ℕ) (gs left : List Frame) (memories' : List (List ℕ)) → phases ≡ course.phases → memories' ≡ memories_written new.writes.items memories → left ≡ gs
       → AllByRecursion (IsSoundFrame (length phases)) gs → IsEarlier (length phases) at' → s.step ≡ steps + 1 → IsSteady (run_at s.entries.now course o' (steps + 1) memories' new.variables.items at' left) new.given.items new.banks.items firsts
   steady_next phases at' gs left memories' same made moved sound earlier counted = record {
     entries = steady.entries;
@@ -262,11 +262,11 @@ module _ {s : Scene} {new : State} (ready : IsReadyState s new) (course : Course
     long = ready.long;
     free = subst (λ (n : ℕ). AreUsedBy n new.banks.items) counted ready.used;
     course = steady.course;
-    frames = subst (λ (l : List Frame). AllByRecursion (IsSoundFrame (length course.phases)) l) (sym moved) (subst (λ (l : List Phase). AllByRecursion (IsSoundFrame (length l)) gs) same sound);
-    place = subst (λ (l : List Phase). IsEarlier (length l) at') same earlier;
+    frames = subst (λ (l : List Frame). AllByRecursion (IsSoundFrame (length course.phases)) l) (sym moved) (subst (λ (l : List HeldPhase). AllByRecursion (IsSoundFrame (length l)) gs) same sound);
+    place = subst (λ (l : List HeldPhase). IsEarlier (length l) at') same earlier;
   }
 
-  pub steady_back : (old : State) → IsBack old new → IsSteady (run_at s.entries.now course o' steps memories new.variables.items place frames) new.given.items new.banks.items firsts
+  pub steady_back : (old : StepState) → IsBack old new → IsSteady (run_at s.entries.now course o' steps memories new.variables.items place frames) new.given.items new.banks.items firsts
   steady_back old back = record {
     entries = steady.entries;
     few = steady.few;
@@ -285,6 +285,6 @@ module _ {s : Scene} {new : State} (ready : IsReadyState s new) (course : Course
 pub frames_copied : (new cleared slice frames : List Frame) → new ≡ cleared ++ slice → cleared ≡ [] → slice ≡ frames → new ≡ frames
 frames_copied new cleared slice frames added none same = added ∙ (ap (λ l. l ++ slice) none ∙ same)
 
-pub frames_sound : (phases kept : List Phase) (new frames : List Frame) → phases ≡ kept → new ≡ frames → AllByRecursion (IsSoundFrame (length kept)) frames → AllByRecursion (IsSoundFrame (length phases)) new
+pub frames_sound : (phases kept : List HeldPhase) (new frames : List Frame) → phases ≡ kept → new ≡ frames → AllByRecursion (IsSoundFrame (length kept)) frames → AllByRecursion (IsSoundFrame (length phases)) new
 frames_sound phases kept new frames same copied sound =
-    subst (λ (l : List Frame). AllByRecursion (IsSoundFrame (length phases)) l) (sym copied) (subst (λ (l : List Phase). AllByRecursion (IsSoundFrame (length l)) frames) (sym same) sound)
+    subst (λ (l : List Frame). AllByRecursion (IsSoundFrame (length phases)) l) (sym copied) (subst (λ (l : List HeldPhase). AllByRecursion (IsSoundFrame (length l)) frames) (sym same) sound)

@@ -9,10 +9,10 @@ use Rattle.dh_meaning.specs.Core.{CoreTerm, CorePhase, straightly, turning, loop
 use Rattle.dh_meaning.specs.Effects.{Begun, Block, Effect, Variables, at_each, block_run, holds_at, spent, tested_at}
 use Rattle.dh_meaning.specs.Paths.{Path, paths_in}
 use Rattle.dh_meaning.specs.Runs.{RunTodo, over, phases_then, turn_then, test_then, again_then, pick_then, first_path, next_of}
-use Rattle.dh_code.specs.declared.evaluating.Scene.{Scene}
-use Rattle.dh_code.specs.declared.evaluating.Stop.{Stop}
-use Rattle.dh_code.specs.declared.evaluating.Stop.TheVariants as stop
-use Rattle.dh_code.specs.declared.running.State.{State}
+use Rattle.dh_code.specs.declared.evaluating.StepContext.{StepContext}
+use Rattle.dh_code.specs.declared.evaluating.StepStop.{StepStop}
+use Rattle.dh_code.specs.declared.evaluating.StepStop.TheVariants as stop
+use Rattle.dh_code.specs.declared.running.StepState.{StepState}
 use Rattle.dh_code.specs.declared.spending.Bank.{Bank}
 use Rattle.dh_code.specs.Banks.{first_bank}
 use Rattle.dh_code.specs.Scenes.{begun_in}
@@ -51,19 +51,19 @@ holds_first b (choosing test chosen other) block paths k e holds is first so =
 
 -- States.
 
-module _ (s : Scene) (c : code.Course) (old mid : State) (number : ℕ) (fs : List Frame) where
+module _ (s : StepContext) (c : code.Course) (old mid : StepState) (number : ℕ) (fs : List Frame) where
   -- the block stops
-  pub block_stops : (x : Stop) (result : Result (Option ℕ) Stop) (gs : List Frame) → result ≡ Err x → RunsBlock s c old (Err x) mid number → RunsNext s c old result mid number fs gs
+  pub block_stops : (x : StepStop) (result : Result (Option ℕ) StepStop) (gs : List Frame) → result ≡ Err x → RunsBlock s c old (Err x) mid number → RunsNext s c old result mid number fs gs
   block_stops x result gs stopped runs p v factors q b k keeps stands block come first =
-      subst (λ (r : Result (Option ℕ) Stop). EndsSo p s (course_seen s c) (block_effect s factors b v) (next_of (begun_in s) k (block_effect s factors b v).variables) r mid gs) (sym stopped)
+      subst (λ (r : Result (Option ℕ) StepStop). EndsSo p s (course_seen s c) (block_effect s factors b v) (next_of (begun_in s) k (block_effect s factors b v).variables) r mid gs) (sym stopped)
       (by x ((runs p factors q b stands block).0 (record { variables = v; events = [] }) keeps))
     where
-      by : (x : Stop) → Ends {A = Bool} p s.entries.now (block_effect s factors b v) s.step (Err x) mid → EndsSo p s (course_seen s c) (block_effect s factors b v) (next_of (begun_in s) k (block_effect s factors b v).variables) (Err x) mid gs
+      by : (x : StepStop) → Ends {A = Bool} p s.entries.now (block_effect s factors b v) s.step (Err x) mid → EndsSo p s (course_seen s c) (block_effect s factors b v) (next_of (begun_in s) k (block_effect s factors b v).variables) (Err x) mid gs
       by (stop.At o) h = h
       by stop.NoMemory h = tt
 
   -- it is done, and the run goes on
-  pub block_goes : (holds : Bool) (at : Option ℕ) (new : State) (gs : List Frame) → RunsBlock s c old (Ok holds) mid number → OnlyVariables mid new → GoesOn c at mid new fs gs holds → RunsNext s c old (Ok at) new number fs gs
+  pub block_goes : (holds : Bool) (at : Option ℕ) (new : StepState) (gs : List Frame) → RunsBlock s c old (Ok holds) mid number → OnlyVariables mid new → GoesOn c at mid new fs gs holds → RunsNext s c old (Ok at) new number fs gs
   block_goes holds at new gs runs only goes p v factors q b k keeps stands block come first =
       let e : Effect = record { variables = v; events = [] } in
       let done = runs p factors q b stands block in
@@ -112,7 +112,7 @@ begun_spent table now banks some h = record {
     none : (n : ℕ) → n + 0 ≡ n
     none n = omega arith
 
-module _ (s : Scene) (c : code.Course) (old mid new : State) (number : ℕ) (fs gs : List Frame) (rested : IsRested s old) (variables : mid.variables.items ≡ old.variables.items) (banks : mid.banks.items ≡ old.banks.items) (clear : mid.writes.items ≡ []) where
+module _ (s : StepContext) (c : code.Course) (old mid new : StepState) (number : ℕ) (fs gs : List Frame) (rested : IsRested s old) (variables : mid.variables.items ≡ old.variables.items) (banks : mid.banks.items ≡ old.banks.items) (clear : mid.writes.items ≡ []) where
   begun : (p : Placing) (v : Variables) → Holds p old.variables.items v → Keeps p s.entries.now (record { variables = v; events = [] }) s.step mid
   begun p v holds = record {
     variables = subst (λ (l : List ℕ). Holds p l v) (sym variables) holds;
@@ -123,7 +123,7 @@ module _ (s : Scene) (c : code.Course) (old mid new : State) (number : ℕ) (fs 
   pub step_goes : (at : Option ℕ) → RunsNext s c mid (Ok at) new number fs gs → Advances s c old (Ok at) new number fs gs
   step_goes at runs p v factors q b k holds = runs p v factors q b k (begun p v holds)
 
-  pub step_stops : (x : Stop) (back : State) (hs : List Frame) → RunsNext s c mid (Err x) new number fs gs → Advances s c old (Err x) back number fs hs
+  pub step_stops : (x : StepStop) (back : StepState) (hs : List Frame) → RunsNext s c mid (Err x) new number fs gs → Advances s c old (Err x) back number fs hs
   step_stops (stop.At outcome) back hs runs p v factors q b k holds stands block come first = runs p v factors q b k (begun p v holds) stands block come first
   step_stops stop.NoMemory back hs runs p v factors q b k holds stands block come first = tt
 

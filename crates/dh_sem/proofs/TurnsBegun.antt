@@ -17,7 +17,7 @@ use Rattle.dh_meaning.specs.Core.{Turning}
 use Rattle.dh_meaning.specs.Effects.{Variables, set_variable}
 use Rattle.dh_meaning.specs.Paths.{Path, paths_in, same_path}
 use Rattle.dh_meaning.specs.Runs.{iterator_value, last_copy, turn_begun}
-use Rattle.dh_code.specs.declared.running.State.{State}
+use Rattle.dh_code.specs.declared.running.StepState.{StepState}
 use Rattle.dh_code.specs.Coded.{AreSlotsOf}
 use Rattle.dh_code.specs.Declarations.{factors_inside}
 use Rattle.dh_code.specs.Ranks.{IsPath, rank_of, ranks_of}
@@ -34,10 +34,10 @@ use Rattle.dh_sem.specs.Lanes.{AreLanes}
 use Rattle.dh_sem.specs.Phased.{AreTurns}
 use Rattle.dh_sem.specs.Steps.{BeginsTurn, OnlyVariables, SetsCopy}
 
-pub only_none : (s : State) → OnlyVariables s s
+pub only_none : (s : StepState) → OnlyVariables s s
 only_none s = record { banks = refl; given = refl; writes = refl; long = refl; back = refl }
 
-pub only_then : (a b c : State) → OnlyVariables a b → OnlyVariables b c → OnlyVariables a c
+pub only_then : (a b c : StepState) → OnlyVariables a b → OnlyVariables b c → OnlyVariables a c
 only_then a b c h k = record { banks = k.banks ∙ h.banks; given = k.given ∙ h.given; writes = k.writes ∙ h.writes; long = k.long ∙ h.long; back = k.back ∙ h.back }
 
 -- Numbers.
@@ -183,17 +183,17 @@ rows_over fs (row ∷ rows) (path ∷ paths) (suc i) e over = rows_over fs rows 
     less l e = omega (arith, e)
 
 -- the iterator is set at the paths up to one
-pub record TurnSoFar (lanes : Lanes) (t : turns.Turns) (turn : ℕ) (old : State) (i : ℕ) (now : State) : Type 0 where
+pub record TurnSoFar (lanes : Lanes) (t : turns.Turns) (turn : ℕ) (old : StepState) (i : ℕ) (now : StepState) : Type 0 where
   pub only : OnlyVariables old now
   pub begun : (p : Placing) (factors : List ℕ) (loop : Turning) (v : Variables) → AreLanes (factors_inside factors loop.factor) lanes → AreTurns p factors t loop → Holds p old.variables.items v
       → (so_far : Variables) × (Holds p now.variables.items so_far
       × (turn_begun loop turn (drop i (paths_in (factors_inside factors loop.factor))) so_far ≡ turn_begun loop turn (paths_in (factors_inside factors loop.factor)) v))
 
-pub turn_first : (lanes : Lanes) (t : turns.Turns) (turn : ℕ) (old : State) → TurnSoFar lanes t turn old 0 old
+pub turn_first : (lanes : Lanes) (t : turns.Turns) (turn : ℕ) (old : StepState) → TurnSoFar lanes t turn old 0 old
 turn_first lanes t turn old = record { only = only_none old; begun = λ p factors loop v are turning h. (v, (h, refl)) }
 
-module _ (lanes : Lanes) (t : turns.Turns) (turn : ℕ) (old : State) (i : ℕ) (now : State) (g : TurnSoFar lanes t turn old i now) where
-  pub turn_more : (row : Vec ℕ Global) (base copy value : ℕ) (new : State) → i < length lanes.rows.items → row ≡ get_or lanes.rows.items i row → 1 ≤ t.factor → t.low + (turn + 1) * t.factor ≤ 2 ^ 64 - 1
+module _ (lanes : Lanes) (t : turns.Turns) (turn : ℕ) (old : StepState) (i : ℕ) (now : StepState) (g : TurnSoFar lanes t turn old i now) where
+  pub turn_more : (row : Vec ℕ Global) (base copy value : ℕ) (new : StepState) → i < length lanes.rows.items → row ≡ get_or lanes.rows.items i row → 1 ≤ t.factor → t.low + (turn + 1) * t.factor ≤ 2 ^ 64 - 1
       → base ≡ t.low + turn * t.factor → copy ≡ i % t.factor → value ≡ base + copy → OnlyVariables now new → SetsCopy now new row.items t value → TurnSoFar lanes t turn old (suc i) new
   turn_more row base copy value new within item some counted base_is copy_is value_is only sets = record {
     only = only_then old now new g.only only;

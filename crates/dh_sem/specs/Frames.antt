@@ -8,14 +8,14 @@ use Rattle.dh_meaning.specs.Runs.{RunTodo, over, phases_then, turn_then, test_th
 use Rattle.dh_code.specs.Slots.{Placing}
 use Rattle.dh_sem.specs.declared.phases.Frame.{Frame}
 use Rattle.dh_sem.specs.declared.phases.Frame.TheVariants.{List as Rest, Turn, Test, Again, Pick}
-use Rattle.dh_sem.specs.declared.phases.Phase.{Phase}
+use Rattle.dh_sem.specs.declared.phases.HeldPhase.{HeldPhase}
 use Rattle.dh_sem.specs.Lanes.{LeadsInto}
 use Rattle.dh_sem.specs.Phased.{ArePhases, Course, IsPhase}
 
 -- the phase of a number is this one, done inside loops of these factors
 abbrev pub StandsFor : List MemEntry → Placing → Course → (factors : List ℕ) → (number : ℕ) → CorePhase → Type 0
 StandsFor table p c factors number q =
-    (phase : Phase) × ((slice_get c.phases number ≡ Some phase) × (LeadsInto c.lanes phase.paths factors × IsPhase table p c factors number phase.form q))
+    (phase : HeldPhase) × ((slice_get c.phases number ≡ Some phase) × (LeadsInto c.lanes phase.paths factors × IsPhase table p c factors number phase.form q))
 
 -- a frame is what comes first, at the paths inside loops of some factors
 abbrev pub IsFirst : List MemEntry → Placing → Course → Frame → (k behind : RunTodo) → Type 0

@@ -3,15 +3,15 @@ use Rattle.std.specs.Prelude.{◌≡◌, ℕ, ◌+◌, ◌*◌, ◌<◌, ◌≤�
 use Rattle.dh_tree.specs.declared.tables.MemEntry.{MemEntry}
 use Rattle.dh_meaning.specs.Core.{Turning, CorePhase, straightly, turning, looping, choosing, CorePhases, no_core_phases, phase_and}
 use Rattle.dh_code.specs.declared.codes.Code.{Code}
-use Rattle.dh_code.specs.declared.codes.Operation.{Operation}
+use Rattle.dh_code.specs.declared.codes.CodeOperation.{CodeOperation}
 use Rattle.dh_code.specs.Coded.{AreCoded, AreSlotsOf, IsFlat}
 use Rattle.dh_code.specs.Slots.{Placing}
 use Rattle.dh_code.specs.Suited.{CanDoAll, CanTest, IsInside}
 use Rattle.dh_sem.specs.declared.lanes.Lanes.{Lanes}
-use Rattle.dh_sem.specs.declared.phases.Form.{Form}
-use Rattle.dh_sem.specs.declared.phases.Form.TheVariants.{Straight, Turns, Loop, Choice}
+use Rattle.dh_sem.specs.declared.phases.PhaseForm.{PhaseForm}
+use Rattle.dh_sem.specs.declared.phases.PhaseForm.TheVariants.{Straight, Turns, Loop, Choice}
 use Rattle.dh_sem.specs.declared.phases.Turns as turns
-use Rattle.dh_sem.specs.declared.phases.Phase.{Phase}
+use Rattle.dh_sem.specs.declared.phases.HeldPhase.{HeldPhase}
 use Rattle.dh_sem.specs.declared.phases.Frame.{Frame}
 use Rattle.dh_sem.specs.declared.phases.Frame.TheVariants.{List as Rest, Turn, Test, Again, Pick}
 use Rattle.dh_code.specs.Scenes.{IsHeld, IsEarlier}
@@ -21,7 +21,7 @@ use Rattle.dh_sem.specs.Lanes.{LeadsInto}
 -- what a run has of a program: its code, its phases and the paths at which they are done
 pub record Course : Type 0 where
   pub code : Code
-  pub phases : List Phase
+  pub phases : List HeldPhase
   pub lanes : List Lanes
 
 -- the turns of a `for`, and the slots of its iterator inside loops of these factors
@@ -47,11 +47,11 @@ abbrev mutual
   ArePhases table p c factors None (phase_and q qs) = ⊥
   ArePhases table p c factors (Some at) no_core_phases = ⊥
   ArePhases table p c factors (Some at) (phase_and q qs) =
-      (phase : Phase) × ((slice_get c.phases at ≡ Some phase) × (LeadsInto c.lanes phase.paths factors
+      (phase : HeldPhase) × ((slice_get c.phases at ≡ Some phase) × (LeadsInto c.lanes phase.paths factors
       × (IsEarlier at phase.next × (IsPhase table p c factors at phase.form q × ArePhases table p c factors phase.next qs))))
 
   -- what the phase of a number does is this; the body of a `for` has a phase
-  pub IsPhase : List MemEntry → Placing → Course → (factors : List ℕ) → (at : ℕ) → Form → CorePhase → Type 0
+  pub IsPhase : List MemEntry → Placing → Course → (factors : List ℕ) → (at : ℕ) → PhaseForm → CorePhase → Type 0
   IsPhase table p c factors at (Straight list) (straightly cs) = AreCoded p.held table c.code list cs × CanDoAll table p factors cs
   IsPhase table p c factors at (Straight list) (turning loop body) = ⊥
   IsPhase table p c factors at (Straight list) (looping test body) = ⊥
@@ -85,22 +85,22 @@ pub record IsLinkedTurns (lanes : List Lanes) (at : ℕ) (t : turns.Turns) : Typ
   pub some_factor : 1 ≤ t.factor
   pub some_turn : 1 ≤ t.count
 
-abbrev pub IsLinked : List Lanes → (at : ℕ) → Form → Type 0
+abbrev pub IsLinked : List Lanes → (at : ℕ) → PhaseForm → Type 0
 IsLinked lanes at (Straight list) = Unit {0}
 IsLinked lanes at (Turns t) = IsLinkedTurns lanes at t
 IsLinked lanes at (Loop f list) = IsEarlier at list
 IsLinked lanes at (Choice f one two) = IsEarlier at one × IsEarlier at two
 
-pub record IsLinkedPhase (lanes : List Lanes) (at : ℕ) (phase : Phase) : Type 0 where
+pub record IsLinkedPhase (lanes : List Lanes) (at : ℕ) (phase : HeldPhase) : Type 0 where
   pub form : IsLinked lanes at phase.form
   pub next : IsEarlier at phase.next
   pub paths : phase.paths < length lanes
 
-pub record AreLinked (phases : List Phase) (lanes : List Lanes) : Type 0 where
-  pub each : (at : ℕ) (phase : Phase) → slice_get phases at ≡ Some phase → IsLinkedPhase lanes at phase
+pub record AreLinked (phases : List HeldPhase) (lanes : List Lanes) : Type 0 where
+  pub each : (at : ℕ) (phase : HeldPhase) → slice_get phases at ≡ Some phase → IsLinkedPhase lanes at phase
 
 -- the operations of the test stand in code
-abbrev pub TestIsHeld : List Operation → Form → Type 0
+abbrev pub TestIsHeld : List CodeOperation → PhaseForm → Type 0
 TestIsHeld os (Straight list) = Unit {0}
 TestIsHeld os (Turns t) = Unit {0}
 TestIsHeld os (Loop f list) = IsHeld os f
@@ -108,7 +108,7 @@ TestIsHeld os (Choice f one two) = IsHeld os f
 
 pub record IsSoundCourse (c : Course) : Type 0 where
   pub links : AreLinked c.phases c.lanes
-  pub tests : (at : ℕ) (phase : Phase) → slice_get c.phases at ≡ Some phase → TestIsHeld c.code.operations phase.form
+  pub tests : (at : ℕ) (phase : HeldPhase) → slice_get c.phases at ≡ Some phase → TestIsHeld c.code.operations phase.form
 
 -- a frame of one of so many phases, whose turns are counted
 abbrev pub IsSoundFrame : (count : ℕ) → Frame → Type 0
@@ -119,14 +119,14 @@ IsSoundFrame count (Again at) = at < count
 IsSoundFrame count (Pick at) = at < count
 
 -- the body of a `while`, or the arm of an `if` by its test
-abbrev pub taken_branch : Form → Bool → Option ℕ
+abbrev pub taken_branch : PhaseForm → Bool → Option ℕ
 taken_branch (Straight list) holds = None
 taken_branch (Turns t) holds = None
 taken_branch (Loop f list) holds = list
 taken_branch (Choice f one two) holds = if holds then one else two
 
 -- the turns of a phase that is a `for`
-abbrev pub turns_in : Form → Option turns.Turns
+abbrev pub turns_in : PhaseForm → Option turns.Turns
 turns_in (Straight list) = None
 turns_in (Turns t) = Some t
 turns_in (Loop f list) = None

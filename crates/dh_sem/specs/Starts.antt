@@ -7,10 +7,10 @@ use Rattle.dh_tree.specs.Memories.{table_of}
 use Rattle.dh_tree.specs.PlainTrees.{Program}
 use Rattle.dh_tree.specs.Tables.{Fits}
 use Rattle.dh_code.specs.declared.places.Places.{Places}
-use Rattle.dh_code.specs.declared.running.State.{State}
+use Rattle.dh_code.specs.declared.running.StepState.{StepState}
 use Rattle.dh_code.specs.Declarations.{placing_of, slots_of}
 use Rattle.dh_code.specs.Spent.{AreUsedBy}
-use Rattle.dh_sem.specs.declared.holding.Made.{Made}
+use Rattle.dh_sem.specs.declared.holding.MadeRun.{MadeRun}
 use Rattle.dh_sem.specs.declared.phases.Frame.{Frame}
 use Rattle.dh_sem.specs.declared.phases.Frame.TheVariants.{List as Rest}
 use Rattle.dh_sem.specs.declared.starting.Begun.{Begun}
@@ -28,23 +28,23 @@ pub record ArePlacesOf (p : Program) (places : Places) : Type 0 where
   pub count_is : places.count ≡ slots_of p
 
 -- nothing was made yet, at the one path outside all loops
-pub record IsNothingMade (made : Made) : Type 0 where
+pub record IsNothingMade (made : MadeRun) : Type 0 where
   pub first_lanes : AreFirstLanes made.lanes.items
   pub sound : (table : List MemEntry) → IsSoundMade table made
 
 -- what was made stands as the program's phases do, of which this is the first, and so many slots are its variables'
-abbrev pub HoldsProgramAndSlots : Program → Made → (first : Option ℕ) → (slots : ℕ) → Type 0
+abbrev pub HoldsProgramAndSlots : Program → MadeRun → (first : Option ℕ) → (slots : ℕ) → Type 0
 HoldsProgramAndSlots p made first slots = HoldsProgram p made first × (slots ≡ slots_of p)
 
 -- so many slots that hold 0, room for what so many operations give, and so many banks of which nothing is spent
-pub record IsUnused (slots operations banks : ℕ) (state : State) : Type 0 where
+pub record IsUnused (slots operations banks : ℕ) (state : StepState) : Type 0 where
   pub variables_are : state.variables.items ≡ replicate slots 0
   pub given_long : length state.given.items ≡ operations
   pub banks_long : length state.banks.items ≡ banks
   pub unspent : AreUsedBy 0 state.banks.items
 
 -- from the list of phases that begins with `first` to the phase of its first block, if there is one
-pub record ReachesFirstBlock (course : code.Course) (first place : Option ℕ) (old new : State) (frames : List Frame) : Type 0 where
+pub record ReachesFirstBlock (course : code.Course) (first place : Option ℕ) (old new : StepState) (frames : List Frame) : Type 0 where
   pub only : OnlyVariables old new
   pub sound : AllByRecursion (IsSoundFrame (length course.phases.now)) frames
   pub earlier : IsEarlier (length course.phases.now) place

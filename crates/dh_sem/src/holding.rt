@@ -6,15 +6,15 @@ ghost use Rattle.dh_sem.specs.Held.{FixesForm, HoldsAll, HoldsList, turns_counte
 ghost use Rattle.dh_sem.specs.Lanes.{LeadsInside, MoreLanes};
 
 use crate::lanes::{Lanes, inside};
-use crate::phases::{Form, Phase as HeldPhase, Turns};
+use crate::phases::{HeldPhase, PhaseForm, Turns};
 use dh_base::NoMemory;
-use dh_code::{Code, Held, Names, flat, flatten_commands, place_of};
+use dh_code::{Code, Names, VariableSlots, flat, flatten_commands, place_of};
 use dh_phases::{NumberedCommand, Phase, gather};
 use dh_tree::{Command, LoopHeader};
 use std::alloc::Global;
 
 /// What is made of a program.
-pub struct Made {
+pub struct MadeRun {
     /// The code of its commands.
     pub code: Code,
     /// Its phases.
@@ -25,9 +25,9 @@ pub struct Made {
 
 /// A call, and not the drop of each list where it is dropped: that would stand in the proof of each such
 /// function.
-impl Drop for Made {
+impl Drop for MadeRun {
     fn drop(self) {
-        let Made {
+        let MadeRun {
             code: _code,
             phases: _phases,
             lanes: _lanes,
@@ -69,7 +69,7 @@ fn unnumbered<'a>(
 
 /// So many turns of a `for` whose body is held.
 fn counted_turns(
-    places: &[Held],
+    places: &[VariableSlots],
     header: &LoopHeader,
     count: u64,
     body: Option<usize>,
@@ -93,10 +93,10 @@ fn counted_turns(
 #[cycle(holding)]
 fn fixed(
     names: &Names<'_>,
-    made: &mut Made,
+    made: &mut MadeRun,
     paths: usize,
     phase: &Phase<'_>,
-) -> Result<Form, NoMemory>
+) -> Result<PhaseForm, NoMemory>
     ensures { IfOk result (λ form. FixesForm names.now paths made.old made.new
         (phase_seen phase.now) form) }
 {
@@ -104,7 +104,7 @@ fn fixed(
         Phase::Straight { commands } => {
             let commands = unnumbered(names.alloc, commands.as_slice())?;
             let list = flatten_commands(names, &mut made.code, commands.as_slice())?;
-            Ok(Form::Straight { list })
+            Ok(PhaseForm::Straight { list })
         }
         Phase::Turns {
             header,
@@ -115,12 +115,12 @@ fn fixed(
             let within = lanes_inside(names.alloc, &mut made.lanes, paths, header.factor)?;
             let body = hold(names, made, within, body.as_slice())?;
             let turns = counted_turns(names.places, header, *count, body, within);
-            Ok(Form::Turns { turns })
+            Ok(PhaseForm::Turns { turns })
         }
         Phase::Loop { test, body, .. } => {
             let test = flat(names, &mut made.code, test)?;
             let body = hold(names, made, paths, body.as_slice())?;
-            Ok(Form::Loop { test, body })
+            Ok(PhaseForm::Loop { test, body })
         }
         Phase::Choice {
             test,
@@ -131,7 +131,7 @@ fn fixed(
             let test = flat(names, &mut made.code, test)?;
             let chosen = hold(names, made, paths, then.as_slice())?;
             let other = hold(names, made, paths, other.as_slice())?;
-            Ok(Form::Choice {
+            Ok(PhaseForm::Choice {
                 test,
                 chosen,
                 other,
@@ -145,7 +145,7 @@ fn fixed(
 #[cycle(holding)]
 fn hold(
     names: &Names<'_>,
-    made: &mut Made,
+    made: &mut MadeRun,
     paths: usize,
     phases: &[Phase<'_>],
 ) -> Result<Option<usize>, NoMemory>
@@ -165,7 +165,7 @@ fn hold(
 /// Holds the phases of a program's body. Gives the first of them.
 pub fn hold_all(
     names: &Names<'_>,
-    made: &mut Made,
+    made: &mut MadeRun,
     command: &Command,
 ) -> Result<Option<usize>, NoMemory>
     ensures { IfOk result (λ first. HoldsAll names.now made.old made.new command.now first) }

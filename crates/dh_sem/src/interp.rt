@@ -9,12 +9,12 @@ ghost use Rattle.dh_sem.specs.Runnable.{IsRunnable};
 ghost use Rattle.dh_sem.specs.Runs.{StandsAt, StepsOn, place_outcome};
 ghost use Rattle.dh_sem.specs.Steps.{stop_outcome};
 
-use crate::holding::Made;
+use crate::holding::MadeRun;
 use crate::phases::Frame;
 use crate::starting::begin;
 use crate::stepping::{Course, advance, make_writes};
 use dh_base::{NoMemory, Outcome};
-use dh_code::{Scene, State, Stop};
+use dh_code::{StepContext, StepState, StepStop};
 use dh_tree::{MemEntry, Memories, Typed};
 use std::alloc::Global;
 use std::marker::Model;
@@ -28,12 +28,12 @@ pub struct Interp<'a> {
     // by memory the number of its first bank
     firsts: Vec<usize>,
     // the code, the phases of the program and the paths at which they are done
-    made: Made,
+    made: MadeRun,
     // what is still to come behind the next block
     frames: Vec<Frame>,
     // where a step works out what is to come after it
     spare: Vec<Frame>,
-    state: State,
+    state: StepState,
     memories: Memories,
     steps: u64,
     // the phase of the next block, if there is one
@@ -89,12 +89,12 @@ fn outcome_at(place: Option<usize>) -> Outcome
 }
 
 /// The outcome at a stop; None at want of memory.
-fn stopped_at(stop: Stop) -> Option<Outcome>
+fn stopped_at(stop: StepStop) -> Option<Outcome>
     ensures { result ≡ stop_outcome stop }
 {
     match stop {
-        Stop::At(outcome) => Some(outcome),
-        Stop::NoMemory => None,
+        StepStop::At(outcome) => Some(outcome),
+        StepStop::NoMemory => None,
     }
 }
 
@@ -149,7 +149,7 @@ impl<'a> Interp<'a> {
         let Some(at) = self.place else {
             return Ok(self.outcome);
         };
-        let scene = Scene {
+        let scene = StepContext {
             alloc: self.alloc,
             code: &self.made.code,
             entries: self.entries,

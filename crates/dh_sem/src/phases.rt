@@ -1,6 +1,6 @@
 //! The phases of a program, as a run does them.
 
-use dh_code::Flat;
+use dh_code::FlatExpression;
 
 /// A `for`.
 #[derive(Clone, Copy)]
@@ -23,7 +23,7 @@ pub struct Turns {
 
 /// A phase.
 #[derive(Clone, Copy)]
-pub enum Form {
+pub enum PhaseForm {
     /// Commands that are done in one step, from the first one on.
     Straight {
         /// Its number.
@@ -37,14 +37,14 @@ pub enum Form {
     /// A `while`.
     Loop {
         /// The test.
-        test: Flat,
+        test: FlatExpression,
         /// The phases of the body.
         body: Option<usize>,
     },
     /// An `if` of which the arms are not straight.
     Choice {
         /// The test.
-        test: Flat,
+        test: FlatExpression,
         /// The phases of the arm that is done where it holds.
         chosen: Option<usize>,
         /// Those of the arm that is done where it does not.
@@ -55,9 +55,9 @@ pub enum Form {
 /// A phase, and the rest of its list. Every list begins at an earlier number than those that hold
 /// it.
 #[derive(Clone, Copy)]
-pub struct Phase {
+pub struct HeldPhase {
     /// The phase.
-    pub form: Form,
+    pub form: PhaseForm,
     /// The number of the phase behind it, if there is one.
     pub next: Option<usize>,
     /// The number of the paths at which it is done.

@@ -17,12 +17,12 @@ ghost use Rattle.dh_code.specs.Scenes.{IsEarlier};
 ghost use Rattle.dh_sem.specs.Runnable.{IsRunnable};
 ghost use Rattle.dh_sem.specs.Starts.{ArePlacesOf, HoldsProgramAndSlots, IsBegunRun, IsNothingMade, IsUnused, ReachesFirstBlock};
 
-use crate::holding::{Made, hold_all};
+use crate::holding::{MadeRun, hold_all};
 use crate::lanes::first_lanes;
 use crate::phases::Frame;
 use crate::stepping::{Course, go_on};
 use dh_base::{Items, NoMemory};
-use dh_code::{Code, Held, Names, Places, State, place_all, unused};
+use dh_code::{Code, Names, Places, StepState, VariableSlots, place_all, unused};
 use dh_extents::measure;
 use dh_tree::{MemEntry, Typed};
 use dh_ways::{WayTable, hidden_in, ways_in};
@@ -34,9 +34,9 @@ pub struct Begun {
     /// By memory the number of its first bank.
     pub firsts: Vec<usize>,
     /// The code, the phases of the program and the paths at which they are done.
-    pub made: Made,
+    pub made: MadeRun,
     /// The variables and what is spent of the banks.
-    pub state: State,
+    pub state: StepState,
     /// What is still to come behind the first block.
     pub frames: Vec<Frame>,
     /// The phase of the first block, if there is one.
@@ -94,11 +94,11 @@ fn places_of(alloc: Global, program: &Typed) -> Result<Places, NoMemory>
 }
 
 /// Nothing made yet, at the one path outside all loops.
-fn nothing_made(alloc: Global) -> Result<Made, NoMemory>
+fn nothing_made(alloc: Global) -> Result<MadeRun, NoMemory>
     ensures { IfOk result IsNothingMade }
 {
     let lanes = first_lanes(alloc)?;
-    Ok(Made {
+    Ok(MadeRun {
         code: Code {
             operations: Items::new(alloc),
             steps: Items::new(alloc),
@@ -113,8 +113,8 @@ fn hold_program(
     alloc: Global,
     program: &Typed,
     ways: &WayTable,
-    places: &[Held],
-    made: &mut Made,
+    places: &[VariableSlots],
+    made: &mut MadeRun,
 ) -> Result<Option<usize>, NoMemory>
     requires table { IsProgramTable (table_of (program_seen program.now)) }
     requires runnable { IsRunnable (program_seen program.now) }
@@ -138,8 +138,8 @@ fn hold_program(
 fn hold_placed(
     alloc: Global,
     program: &Typed,
-    places: &[Held],
-    made: &mut Made,
+    places: &[VariableSlots],
+    made: &mut MadeRun,
 ) -> Result<Option<usize>, NoMemory>
     requires table { IsProgramTable (table_of (program_seen program.now)) }
     requires runnable { IsRunnable (program_seen program.now) }
@@ -156,7 +156,7 @@ fn hold_placed(
 fn hold_first(
     alloc: Global,
     program: &Typed,
-    made: &mut Made,
+    made: &mut MadeRun,
 ) -> Result<(Option<usize>, u32), NoMemory>
     requires table { IsProgramTable (table_of (program_seen program.now)) }
     requires runnable { IsRunnable (program_seen program.now) }
@@ -177,13 +177,13 @@ fn first_state(
     slots: usize,
     operations: usize,
     banks: usize,
-) -> Result<State, NoMemory>
+) -> Result<StepState, NoMemory>
     ensures { IfOk result (IsUnused slots operations banks) }
 {
     let variables = zeros(alloc, slots)?;
     let given = zeros(alloc, operations)?;
     let unspent = unused(alloc, banks)?;
-    Ok(State {
+    Ok(StepState {
         variables,
         given,
         banks: unspent,
@@ -195,7 +195,7 @@ fn first_state(
 /// Goes to the first block of a list of phases, where there is one.
 fn go_to_first(
     course: &Course<'_>,
-    state: &mut State,
+    state: &mut StepState,
     frames: &mut Vec<Frame>,
     first: Option<usize>,
 ) -> Result<Option<usize>, NoMemory>
@@ -214,7 +214,7 @@ fn go_to_first(
 fn stand_first(
     alloc: Global,
     program: &Typed,
-    made: Made,
+    made: MadeRun,
     first: Option<usize>,
     slots: u32,
 ) -> Result<Begun, NoMemory>

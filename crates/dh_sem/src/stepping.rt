@@ -9,10 +9,11 @@ ghost use Rattle.dh_sem.specs.Phased.{AreLinked, IsSoundCourse, IsSoundFrame, ta
 ghost use Rattle.dh_sem.specs.Steps.{Advances, BackIfStopped, BeginsTurn, Descends, FollowsFrame, GoesOn, IsRested, Lightens, NowhereIfNone, OnlyVariables, RunsBlock, RunsNext, SetsCopy, TestsAllPaths, course_seen, which};
 
 use crate::lanes::Lanes;
-use crate::phases::{Form, Frame, Phase, Turns};
+use crate::phases::{Frame, HeldPhase, PhaseForm, Turns};
 use dh_base::NoMemory;
 use dh_code::{
-    Flat, Scene, State, Stop, Write, decide, release, run, set_slot, slot, undo, write_all,
+    FlatExpression, StepContext, StepState, StepStop, Write, decide, release, run, set_slot, slot,
+    undo, write_all,
 };
 use dh_tree::Memories;
 use std::alloc::Global;
@@ -22,13 +23,18 @@ use std::mem;
 #[derive(Clone, Copy)]
 pub struct Course<'a> {
     /// The phases of the program.
-    pub phases: &'a [Phase],
+    pub phases: &'a [HeldPhase],
     /// The paths at which they are done.
     pub lanes: &'a [Lanes],
 }
 
 /// Evaluates a test at all paths. Gives whether it holds at the first one.
-fn test(scene: &Scene<'_>, state: &mut State, lanes: &Lanes, test: &Flat) -> Result<bool, Stop>
+fn test(
+    scene: &StepContext<'_>,
+    state: &mut StepState,
+    lanes: &Lanes,
+    test: &FlatExpression,
+) -> Result<bool, StepStop>
     requires scene { IsScene scene.now }
     requires ready { IsReadyState scene.now state.old }
     requires held { IsHeld scene.now.code.now.operations test.now }
@@ -54,11 +60,11 @@ fn first_of(i: usize, first: bool, holds: bool) -> bool
 
 /// Does the block of a phase. Gives whether its test holds, where it has one.
 fn run_block(
-    scene: &Scene<'_>,
+    scene: &StepContext<'_>,
     course: &Course<'_>,
-    state: &mut State,
+    state: &mut StepState,
     at: usize,
-) -> Result<bool, Stop>
+) -> Result<bool, StepStop>
     requires scene { IsScene scene.now }
     requires ready { IsReadyState scene.now state.old }
     requires course { IsSoundCourse (course_seen scene.now course.now) }
@@ -70,7 +76,7 @@ fn run_block(
     let phase = phase_at(course.phases, at);
     let lanes = lanes_at(course.lanes, phase.paths);
     match &phase.form {
-        Form::Straight { list } => {
+        PhaseForm::Straight { list } => {
             run(
                 scene,
                 state,
@@ -80,21 +86,21 @@ fn run_block(
             )?;
             Ok(false)
         }
-        Form::Loop {
+        PhaseForm::Loop {
             test: condition,
             ..
         } => test(scene, state, lanes, condition),
-        Form::Choice {
+        PhaseForm::Choice {
             test: condition,
             ..
         } => test(scene, state, lanes, condition),
-        Form::Turns { .. } => Ok(false),
+        PhaseForm::Turns { .. } => Ok(false),
     }
 }
 
 /// Sets the copy of an iterator at a path of these ranks. (An iterator that is not declared by its
 /// loop has none there.)
-fn set_copy(state: &mut State, ranks: &[u32], turns: &Turns, value: u64) -> Result<(), NoMemory>
+fn set_copy(state: &mut StepState, ranks: &[u32], turns: &Turns, value: u64) -> Result<(), NoMemory>
     ensures only { OnlyVariables state.old state.new }
     ensures sets { IfOk result (λ _. SetsCopy state.old state.new ranks.now turns.now value) }
 {
@@ -118,7 +124,12 @@ fn copy_of(number: u64, factor: u64) -> u64
 }
 
 /// Begins a turn of a `for`: at each path inside it the iterator has its value.
-fn begin_turn(state: &mut State, lanes: &Lanes, turns: &Turns, turn: u64) -> Result<(), NoMemory>
+fn begin_turn(
+    state: &mut StepState,
+    lanes: &Lanes,
+    turns: &Turns,
+    turn: u64,
+) -> Result<(), NoMemory>
     requires some_factor { 1 ≤ turns.now.factor }
     requires counted { turns.now.low + (turn + 1) * turns.now.factor ≤ 2 ^ 64 - 1 }
     ensures only { OnlyVariables state.old state.new }
@@ -134,7 +145,7 @@ fn begin_turn(state: &mut State, lanes: &Lanes, turns: &Turns, turn: u64) -> Res
 }
 
 /// The phase of a number.
-fn phase_at(phases: &[Phase], at: usize) -> &Phase
+fn phase_at(phases: &[HeldPhase], at: usize) -> &HeldPhase
     requires there { at < length phases.now }
     ensures { slice_get phases.now at ≡ Some result.now }
 {
@@ -153,7 +164,7 @@ fn lanes_at(lanes: &[Lanes], at: usize) -> &Lanes
 /// no phase.
 fn descend(
     course: &Course<'_>,
-    state: &mut State,
+    state: &mut StepState,
     frames: &mut Vec<Frame>,
     list: Option<usize>,
 ) -> Result<Option<usize>, NoMemory>
@@ -176,16 +187,16 @@ fn descend(
     let phase = phase_at(course.phases, at);
     frames.push(Frame::List { list: phase.next })?;
     match &phase.form {
-        Form::Straight { .. } => Ok(Some(at)),
-        Form::Loop { .. } => {
+        PhaseForm::Straight { .. } => Ok(Some(at)),
+        PhaseForm::Loop { .. } => {
             frames.push(Frame::Test { at })?;
             Ok(Some(at))
         }
-        Form::Choice { .. } => {
+        PhaseForm::Choice { .. } => {
             frames.push(Frame::Pick { at })?;
             Ok(Some(at))
         }
-        Form::Turns { turns } => {
+        PhaseForm::Turns { turns } => {
             begin_turn(state, lanes_at(course.lanes, turns.inside), turns, 0)?;
             frames.push(Frame::Turn { at, turn: 0 })?;
             descend(course, state, frames, turns.body)
@@ -197,7 +208,7 @@ fn descend(
 #[inline(always)]
 fn go_into(
     course: &Course<'_>,
-    state: &mut State,
+    state: &mut StepState,
     frames: &mut Vec<Frame>,
     list: Option<usize>,
 ) -> Result<Option<usize>, NoMemory>
@@ -221,33 +232,33 @@ fn go_into(
 }
 
 /// The body of a phase that is a `while`, or the arm of an `if` by its test.
-fn arm(phase: &Phase, holds: bool) -> Option<usize>
+fn arm(phase: &HeldPhase, holds: bool) -> Option<usize>
     ensures { result ≡ taken_branch phase.now.form holds }
 {
     match &phase.form {
-        Form::Loop { body, .. } => *body,
-        Form::Choice { chosen, other, .. } => if holds { *chosen } else { *other },
-        Form::Straight { .. } => None,
-        Form::Turns { .. } => None,
+        PhaseForm::Loop { body, .. } => *body,
+        PhaseForm::Choice { chosen, other, .. } => if holds { *chosen } else { *other },
+        PhaseForm::Straight { .. } => None,
+        PhaseForm::Turns { .. } => None,
     }
 }
 
 /// The turns of a phase that is a `for`.
-fn turns_of(phase: &Phase) -> Option<Turns>
+fn turns_of(phase: &HeldPhase) -> Option<Turns>
     ensures { result ≡ turns_in phase.now.form }
 {
     match &phase.form {
-        Form::Turns { turns } => Some(*turns),
-        Form::Straight { .. } => None,
-        Form::Loop { .. } => None,
-        Form::Choice { .. } => None,
+        PhaseForm::Turns { turns } => Some(*turns),
+        PhaseForm::Straight { .. } => None,
+        PhaseForm::Loop { .. } => None,
+        PhaseForm::Choice { .. } => None,
     }
 }
 
 /// The next turn of a `for`, where there is one.
 fn next_turn(
     course: &Course<'_>,
-    state: &mut State,
+    state: &mut StepState,
     frames: &mut Vec<Frame>,
     at: usize,
     turn: u64,
@@ -282,7 +293,7 @@ fn next_turn(
 /// Goes on to the next block behind a frame, where that leads to one.
 fn follow(
     course: &Course<'_>,
-    state: &mut State,
+    state: &mut StepState,
     frames: &mut Vec<Frame>,
     frame: Frame,
     holds: bool,
@@ -325,7 +336,7 @@ fn follow(
 /// Goes on to the next block, where there is one.
 pub fn go_on(
     course: &Course<'_>,
-    state: &mut State,
+    state: &mut StepState,
     frames: &mut Vec<Frame>,
     holds: bool,
 ) -> Result<Option<usize>, NoMemory>
@@ -351,13 +362,13 @@ pub fn go_on(
 /// Does the block of a phase, and goes on to the next one. Gives the phase of that, if there is one,
 /// in `next`.
 fn run_next(
-    scene: &Scene<'_>,
+    scene: &StepContext<'_>,
     course: &Course<'_>,
-    state: &mut State,
+    state: &mut StepState,
     frames: &mut Vec<Frame>,
     at: usize,
     next: &mut Option<usize>,
-) -> Result<(), Stop>
+) -> Result<(), StepStop>
     requires scene { IsScene scene.now }
     requires ready { IsReadyState scene.now state.old }
     requires course { IsSoundCourse (course_seen scene.now course.now) }
@@ -380,13 +391,13 @@ fn run_next(
 /// Does the block of a phase, and goes on to the next one, which it gives in `next`. After a stop the
 /// variables are as before, and only the frames and `next` are not.
 pub fn advance(
-    scene: &Scene<'_>,
+    scene: &StepContext<'_>,
     course: &Course<'_>,
-    state: &mut State,
+    state: &mut StepState,
     frames: &mut Vec<Frame>,
     at: usize,
     next: &mut Option<usize>,
-) -> Result<(), Stop>
+) -> Result<(), StepStop>
     requires scene { IsScene scene.now }
     requires rested { IsRested scene.now state.old }
     requires course { IsSoundCourse (course_seen scene.now course.now) }

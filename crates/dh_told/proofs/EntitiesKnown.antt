@@ -15,7 +15,7 @@ use Rattle.dh_tree.specs.ViewOffsets.{offsets_of}
 use Rattle.dh_meaning.specs.Bindings.{Binding, binding_in, bindings_of, depth_inside, kind_bound}
 use Rattle.dh_meaning.specs.CoreOf.{entity_number}
 use Rattle.dh_meaning.specs.Ways.{Led, ViewSite, all_bindings_of, all_entities_of, behind_all, behind_hidden, hidden_binding, hidden_bindings, hidden_from, hidden_of, led_binding, standings, view_bindings, ways_of}
-use Rattle.dh_code.specs.declared.places.Held.{Held}
+use Rattle.dh_code.specs.declared.places.VariableSlots.{VariableSlots}
 use Rattle.dh_code.specs.Declarations.{Declaration, all_declarations_of, all_held, declaration_in, declared_factors, placing_of}
 use Rattle.dh_code.specs.Ranks.{copies_in}
 use Rattle.dh_code.specs.Slots.{held_at, held_nowhere}
@@ -108,7 +108,7 @@ kind_known p h named e = by (cases_lt e (all_entities_of p))
 
     by : (e < all_entities_of p) ⊎ (all_entities_of p ≤ e) → (held_at (placing_of p).held e).kind ≡ kind_bound (binding_in (all_bindings_of p) e)
     by (inl l) = kinds_all p named e l
-    by (inr l) = ap (λ (x : Held). x.kind) (held_past (all_declarations_of p) 0 0 (all_entities_of p) e l) ∙ ap kind_bound (sym (none_bound (all_entities_of p) e (all_bindings_of p) l all))
+    by (inr l) = ap (λ (x : VariableSlots). x.kind) (held_past (all_declarations_of p) 0 0 (all_entities_of p) e l) ∙ ap kind_bound (sym (none_bound (all_entities_of p) e (all_bindings_of p) l all))
 
 -- Iterators.
 
@@ -211,9 +211,9 @@ no_counter p h e plain = by (counter_in (counters_of p) (Some e)) refl
 
 pub scenes_tell : ReadyScenesTell
 scenes_tell scene count ready order ways = record {
-  long = ap (λ (held : List Held). length held) order.held;
-  depth = λ e. ap (λ (held : List Held). (held_at held e).depth) order.held;
-  kind = λ e. ap (λ (held : List Held). (held_at held e).kind) order.held ∙ kind_known (program_seen scene.program.now) ready.entities (ready_runs (program_seen scene.program.now) ready).named e;
+  long = ap (λ (held : List VariableSlots). length held) order.held;
+  depth = λ e. ap (λ (held : List VariableSlots). (held_at held e).depth) order.held;
+  kind = λ e. ap (λ (held : List VariableSlots). (held_at held e).kind) order.held ∙ kind_known (program_seen scene.program.now) ready.entities (ready_runs (program_seen scene.program.now) ready).named e;
   plain = λ e none. no_counter (program_seen scene.program.now) ready.entities e none;
   ways = ways;
 }

@@ -9,7 +9,7 @@ use Rattle.dh_value.specs.Words.{IsKind}
 use Rattle.dh_tree.specs.declared.trees.counters.Counter.{Counter}
 use Rattle.dh_tree.specs.Counters.{counter_in, counters_of}
 use Rattle.dh_tree.specs.Seen.{program_seen}
-use Rattle.dh_code.specs.declared.places.Held.{Held}
+use Rattle.dh_code.specs.declared.places.VariableSlots.{VariableSlots}
 use Rattle.dh_meaning.specs.Ways.{all_entities_of}
 use Rattle.dh_code.specs.Declarations.{Declaration, all_declarations_of, all_held, declaration_in, declared_factors}
 use Rattle.dh_code.specs.Ranks.{copies_in}
@@ -19,12 +19,12 @@ use Rattle.dh_told.specs.SizedRegisters.{RegistersAreSized}
 use Rattle.dh_told.proofs.VariablesSized.{variables_are_sized}
 
 -- whose register it is
-record IsOwnedBy (held : List Held) (count register entity : ℕ) : Type 0 where
+record IsOwnedBy (held : List VariableSlots) (count register entity : ℕ) : Type 0 where
   there : entity < length held
   from : first_among held count entity ≤ register
   to : register < first_among held count (suc entity)
 
-owner_below : (held : List Held) (count register : ℕ) → AreSuccessive held count → (n : ℕ) → n ≤ length held → register < first_among held count n → (entity : ℕ) × IsOwnedBy held count register entity
+owner_below : (held : List VariableSlots) (count register : ℕ) → AreSuccessive held count → (n : ℕ) → n ≤ length held → register < first_among held count n → (entity : ℕ) × IsOwnedBy held count register entity
 owner_below held count register s zero within less = absurd (never (first_among held count 0) s.first less)
   where
     never : (m : ℕ) → m ≡ 0 → register < m → ⊥
@@ -41,7 +41,7 @@ owner_below held count register s (suc n) within less = by (cases_lt register (f
     by (inl l) go = go l
     by (inr l) go = (n, record { there = inside within; from = l; to = less })
 
-all_behind : (held : List Held) (n : ℕ) → first_among held n (length held) ≡ n
+all_behind : (held : List VariableSlots) (n : ℕ) → first_among held n (length held) ≡ n
 all_behind [] n = refl
 all_behind (h ∷ held) n = all_behind held n
 
@@ -61,7 +61,7 @@ pub registers_are_sized : RegistersAreSized
 registers_are_sized scene count body phased ready order ways successive made = all_at IsKind phased.registers (λ i k at. by i k at (cases_lt i count))
   where
     long : length scene.held.now ≡ all_entities_of (program_seen scene.program.now)
-    long = ap (λ (l : List Held). length l) order.held ∙ held_long (all_declarations_of (program_seen scene.program.now)) 0 0 (all_entities_of (program_seen scene.program.now))
+    long = ap (λ (l : List VariableSlots). length l) order.held ∙ held_long (all_declarations_of (program_seen scene.program.now)) 0 0 (all_entities_of (program_seen scene.program.now))
 
     kind_or : Kind → Option Kind → Kind
     kind_or j None = j

@@ -12,7 +12,7 @@ use Rattle.dh_meaning.specs.Core.{CorePhase, straightly, turning, looping, choos
 use Rattle.dh_meaning.specs.CoreOf.{core_of}
 use Rattle.dh_meaning.specs.Effects.{Block}
 use Rattle.dh_meaning.specs.Ways.{all_entities_of}
-use Rattle.dh_code.specs.declared.places.Held.{Held}
+use Rattle.dh_code.specs.declared.places.VariableSlots.{VariableSlots}
 use Rattle.dh_code.specs.Declarations.{all_declarations_of, factors_inside, placing_of}
 use Rattle.dh_code.specs.Slots.{Placing, held_at}
 use Rattle.dh_sem.specs.Runnable.{CanRun, CanRunAll, IsRunnable}
@@ -110,7 +110,7 @@ module _ (scene : Scene) (count : ℕ) (plan : PlainPlan) (order : AreHeldInOrde
         factor = c.0.factor;
         count = c.0.turns;
         register_is = sym c.1;
-        held_depth = ap (λ (held : List Held). (held_at held r.loop.iterator).depth) order.held ∙ deep;
+        held_depth = ap (λ (held : List VariableSlots). (held_at held r.loop.iterator).depth) order.held ∙ deep;
         depth = inside_at [] rounds index r ((depths_kept (program_seen scene.program.now) ready.entities).depths (loops_round rounds) b stands) at;
         width = kind.0;
         kind_is = ap (λ (n : ℕ). kind_at plan.registers n) c.1 ∙ kind.1;

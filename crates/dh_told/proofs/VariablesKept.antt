@@ -9,7 +9,7 @@ use Rattle.dh_tree.specs.Memories.{same_entity}
 use Rattle.dh_tree.specs.PlainTrees.{Program}
 use Rattle.dh_tree.specs.Seen.{program_seen}
 use Rattle.dh_meaning.specs.Paths.{Path}
-use Rattle.dh_code.specs.declared.places.Held.{Held}
+use Rattle.dh_code.specs.declared.places.VariableSlots.{VariableSlots}
 use Rattle.dh_meaning.specs.Ways.{all_entities_of}
 use Rattle.dh_ways.specs.HiddenVariables.{hidden_variables}
 use Rattle.dh_ways.proofs.HiddenApart.{are_counted}
@@ -59,7 +59,7 @@ next_begins ds count from (suc n) (suc e) l =
     moved a b = omega arith
 
 -- each register is one of an entity's
-record IsOfEntity (held : List Held) (count n register : ℕ) : Type 0 where
+record IsOfEntity (held : List VariableSlots) (count n register : ℕ) : Type 0 where
   pub entity : ℕ
   pub there : entity < n
   pub from : first_among held count entity ≤ register
@@ -137,10 +137,10 @@ module _ (scene : Scene) (count : ℕ) (order : AreHeldInOrder scene count) wher
   many = all_entities_of (program_seen scene.program.now)
 
   first_is : (e : ℕ) → first_among scene.held.now count e ≡ first_among (all_held ds 0 0 many) (slots_counted ds 0 0 many) e
-  first_is e = ap (λ (held : List Held). first_among held count e) order.held ∙ ap (λ k. first_among (all_held ds 0 0 many) k e) order.count_is
+  first_is e = ap (λ (held : List VariableSlots). first_among held count e) order.held ∙ ap (λ k. first_among (all_held ds 0 0 many) k e) order.count_is
 
   pub long : length scene.held.now ≡ many
-  long = ap (λ (held : List Held). length held) order.held ∙ length_held ds 0 0 many
+  long = ap (λ (held : List VariableSlots). length held) order.held ∙ length_held ds 0 0 many
 
   -- those of the program's own entities are among them
   pub holds_own : length (program_seen scene.program.now).entities ≤ length scene.held.now
@@ -158,7 +158,7 @@ module _ (scene : Scene) (count : ℕ) (order : AreHeldInOrder scene count) wher
 
   placed : IsPlacing (placing_in scene) count
   placed =
-      subst (λ (held : List Held). IsPlacing (record { held = held; factors = (placing_of p).factors }) count) (sym order.held)
+      subst (λ (held : List VariableSlots). IsPlacing (record { held = held; factors = (placing_of p).factors }) count) (sym order.held)
       (subst (λ (n : ℕ). IsPlacing (placing_of p) n) (sym order.count_is) (placed_apart p))
 
   -- a register is one of its entity's
@@ -171,7 +171,7 @@ module _ (scene : Scene) (count : ℕ) (order : AreHeldInOrder scene count) wher
   slot_high : (e : ℕ) (path : Path) (r : ℕ) → e < length scene.held.now → IsPath ((placing_in scene).factors e) path → r ≡ slot_of (placing_in scene) e path → r < first_among scene.held.now count (suc e)
   slot_high e path r there is_path is =
       subst (λ (n : ℕ). r < n) (sym (first_is (suc e) ∙ next_begins ds 0 0 many e (subst (λ (n : ℕ). e < n) long there)))
-      (subst (λ (held : List Held). r < (held_at held e).first + copies_in (declared_factors (declaration_in ds (0 + e)))) order.held
+      (subst (λ (held : List VariableSlots). r < (held_at held e).first + copies_in (declared_factors (declaration_in ds (0 + e)))) order.held
       (subst (λ (k : ℕ). r < (held_at scene.held.now e).first + copies_in (declared_factors (declaration_in ds k))) (front e)
       (high (held_at scene.held.now e).first (rank_of ((placing_in scene).factors e) path) r (copies_in ((placing_in scene).factors e)) is (rank_small ((placing_in scene).factors e) path is_path))))
     where

@@ -16,7 +16,7 @@ use Rattle.dh_meaning.specs.Bindings.{binding_in, kind_bound}
 use Rattle.dh_meaning.specs.Core.{Turning}
 use Rattle.dh_meaning.specs.CoreOf.{Known, entity_number, known_of, turning_of}
 use Rattle.dh_meaning.specs.Phases.{turn_count}
-use Rattle.dh_code.specs.declared.places.Held.{Held}
+use Rattle.dh_code.specs.declared.places.VariableSlots.{VariableSlots}
 use Rattle.dh_meaning.specs.Ways.{ViewSite, all_entities_of, ways_of}
 use Rattle.dh_ways.specs.Seen.{led_seen}
 use Rattle.dh_code.specs.Declarations.{Declaration, all_declarations_of, all_held, declaration_in, declarations, factored, factors_inside, declared_factors, form_declarations, hidden_declarations, groups_declarations, kind_declared, other_declarations, part_declarations, placing_of}
@@ -246,7 +246,7 @@ variables_are_sized scene count ready order ways e within none = by (declaration
 
     held_is : (o : Option Declaration) → declaration_in (all_declarations_of q) e ≡ o → (held_at scene.held.now e).kind ≡ kind_declared o
     held_is o at =
-        ap (λ (l : List Held). (held_at l e).kind) order.held
+        ap (λ (l : List VariableSlots). (held_at l e).kind) order.held
         ∙ (held_kind (all_declarations_of q) 0 0 (all_entities_of q) e within ∙ ap kind_declared (ap (λ (m : ℕ). declaration_in (all_declarations_of q) m) (front e) ∙ at))
 
     by : (o : Option Declaration) → declaration_in (all_declarations_of q) e ≡ o → IsKind (held_at scene.held.now e).kind

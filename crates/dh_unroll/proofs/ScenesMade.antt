@@ -14,7 +14,7 @@ use Rattle.dh_plan.specs.Passes.{IsToCompile}
 use Rattle.dh_runnable.proofs.ProgramsRun.{ready_runs}
 use Rattle.dh_events.specs.Scopes.{AreScopes}
 use Rattle.dh_lengths.specs.SharedReads.{TellsShares}
-use Rattle.dh_code.specs.declared.places.Held.{Held}
+use Rattle.dh_code.specs.declared.places.VariableSlots.{VariableSlots}
 use Rattle.dh_code.specs.Declarations.{all_declarations_of, declarations, placing_of, slots_of}
 use Rattle.dh_code.specs.Placed.{AreFew, ArePlaces}
 use Rattle.dh_sem.proofs.FirstMade.{places_are}
@@ -61,7 +61,7 @@ module _ (scene : Scene) where
   }
 
   -- from what the calls told of the program's tree
-  module _ {E : Type 0} (n count : ℕ) (hidden kept : List Hidden) (led : List KeptLed) (places : List Held) (through : List Through) (shares : List (Option ℕ)) (r : Result Phased E) (asked : IsToCompile p) (ways : map led_seen scene.ways.now ≡ ways_of p)
+  module _ {E : Type 0} (n count : ℕ) (hidden kept : List Hidden) (led : List KeptLed) (places : List VariableSlots) (through : List Through) (shares : List (Option ℕ)) (r : Result Phased E) (asked : IsToCompile p) (ways : map led_seen scene.ways.now ≡ ways_of p)
       (taken : scene.through.now ≡ through) (are_led : led ≡ scene.ways.now) (found : hidden ≡ hidden_of_program p) (are_kept : kept ≡ hidden) where
     abbrev Told : Tree → Type 0
     Told t =

@@ -18,7 +18,7 @@ use Rattle.dh_tree.specs.PlainTrees.{ActionForm}
 use Rattle.dh_tree.specs.ViewBreaches.{breaks_none, kept_behind, kept_of, kept_shape, kept_shape_in}
 use Rattle.dh_tree.specs.ViewFactors.{factors_breaches, viewing_breaches, viewings_breaches}
 use Rattle.dh_tree.specs.Views.{Viewing, form_viewings, map_of, shape_in, shrunk_dims, view_in, viewed_behind, viewed_of}
-use Rattle.dh_viewing.specs.declared.collecting.Found.{Found}
+use Rattle.dh_viewing.specs.declared.collecting.DeclaredView.{DeclaredView}
 use Rattle.dh_viewing.specs.Finding.{viewings_found, entry_shape, factor_broken_at, kept_through, map_through, memory_shape, place_or, shape_kept, shrunk_by, viewed_as, viewing_found}
 
 -- Memories.
@@ -99,7 +99,7 @@ shrunk_next ks ds all next i d one below is more h =
         ∙ ap (λ l. shrunk_by (slice_get ks i) (get_or ds i d) ∷ shrunk_dims l (drop (suc i) ds)) (tail_left ks i)))
 
 -- A view is found.
-pub view_more : (found new : List Found) (f : Found) (seen form : ActionForm) → new ≡ found ++ f ∷ [] → seen ≡ form → form_viewings form ≡ viewing_found f ∷ [] → viewings_found new ≡ viewings_found found ++ form_viewings seen
+pub view_more : (found new : List DeclaredView) (f : DeclaredView) (seen form : ActionForm) → new ≡ found ++ f ∷ [] → seen ≡ form → form_viewings form ≡ viewing_found f ∷ [] → viewings_found new ≡ viewings_found found ++ form_viewings seen
 view_more found new f seen form e s l =
     ap viewings_found e ∙ (map-append viewing_found found (f ∷ []) ∙ ap (λ ms. viewings_found found ++ ms) (sym (ap form_viewings s ∙ l)))
 
@@ -165,10 +165,10 @@ module _ (m : Bool) (at : Place) where
 
 -- Views, one behind the other.
 
-found_from : (found : List Found) (i : ℕ) (x : Found) → i < length found → x ≡ get_or found i x → viewings_found (drop i found) ≡ viewing_found x ∷ viewings_found (drop (suc i) found)
-found_from found i x below is = ap viewings_found (drop-cons found i x below) ∙ ap (λ (f : Found). viewing_found f ∷ viewings_found (drop (suc i) found)) (sym is)
+found_from : (found : List DeclaredView) (i : ℕ) (x : DeclaredView) → i < length found → x ≡ get_or found i x → viewings_found (drop i found) ≡ viewing_found x ∷ viewings_found (drop (suc i) found)
+found_from found i x below is = ap viewings_found (drop-cons found i x below) ∙ ap (λ (f : DeclaredView). viewing_found f ∷ viewings_found (drop (suc i) found)) (sym is)
 
-module _ (ms : List Memory) (found : List Found) (i : ℕ) (x : Found) (below : i < length found) (is : x ≡ get_or found i x) where
+module _ (ms : List Memory) (found : List DeclaredView) (i : ℕ) (x : DeclaredView) (below : i < length found) (is : x ≡ get_or found i x) where
   pub breaches_next : (first vs more : List Viewed) (before kept next : Option Breach)
       → next ≡ least_of kept (viewing_breaches (viewing_found x) (shape_in ms vs (viewing_found x).parent.entity))
       → more ≡ vs ++ viewed_of (viewing_found x) (shape_in ms vs (viewing_found x).parent.entity)

@@ -17,16 +17,16 @@ use Rattle.dh_tree.specs.Seen.{factor_seen, view_plan, program_seen}
 use Rattle.dh_tree.specs.ViewBreaches.{breaks_none, kept_behind, kept_of, kept_shape_in}
 use Rattle.dh_tree.specs.ViewFactors.{factor_broken, factor_keeps, factors_breaches, viewing_breaches, viewings_breaches}
 use Rattle.dh_tree.specs.Views.{Viewing, map_of, shape_in, viewed_behind, viewed_of}
-use Rattle.dh_viewing.specs.declared.collecting.Found.{Found}
+use Rattle.dh_viewing.specs.declared.collecting.DeclaredView.{DeclaredView}
 
-abbrev pub viewing_found : Found → Viewing
+abbrev pub viewing_found : DeclaredView → Viewing
 viewing_found f = record { name = f.name.now; parent = f.parent.now; form = view_plan f.form.now }
 
-abbrev pub viewings_found : List Found → List Viewing
+abbrev pub viewings_found : List DeclaredView → List Viewing
 viewings_found fs = map viewing_found fs
 
 -- these views are found behind those that were found before, where no memory was refused
-abbrev pub FindsViews : {E : Type 0} → Result (Unit {0}) E → (old new : Vec Found Global) → List Viewing → Type 0
+abbrev pub FindsViews : {E : Type 0} → Result (Unit {0}) E → (old new : Vec DeclaredView Global) → List Viewing → Type 0
 FindsViews result old new views = OnOk result (viewings_found new.items ≡ viewings_found old.items ++ views)
 
 -- a dimension of a shrunk view, where a factor stands at its place or none
@@ -91,21 +91,21 @@ multiples_breaches parent by places dims = factors_breaches true parent (map (λ
 -- Views behind others: the parent of each is a memory of the program, or one of the others.
 
 -- what such a view is, where it has a parent
-abbrev pub map_behind : Tree → (before : List Viewed) → Found → Option ViewMap
+abbrev pub map_behind : Tree → (before : List Viewed) → DeclaredView → Option ViewMap
 map_behind tree before f = map_through (viewing_found f) (shape_in (memories_of (program_seen tree)) before f.parent.now.entity)
 
 -- the others with it, and with all of these
-abbrev pub with_found_view : Tree → (before : List Viewed) → Found → List Viewed
+abbrev pub with_found_view : Tree → (before : List Viewed) → DeclaredView → List Viewed
 with_found_view tree before f = before ++ viewed_of (viewing_found f) (shape_in (memories_of (program_seen tree)) before f.parent.now.entity)
 
-abbrev pub with_all_found : Tree → (before : List Viewed) → List Found → List Viewed
+abbrev pub with_all_found : Tree → (before : List Viewed) → List DeclaredView → List Viewed
 with_all_found tree before fs = viewed_behind (memories_of (program_seen tree)) before (viewings_found fs)
 
 -- what its factors and brackets break, and those of all of these
-abbrev pub found_breaches : Tree → (before : List Viewed) → Found → List Breach
+abbrev pub found_breaches : Tree → (before : List Viewed) → DeclaredView → List Breach
 found_breaches tree before f = viewing_breaches (viewing_found f) (shape_in (memories_of (program_seen tree)) before f.parent.now.entity)
 
-abbrev pub all_found_breaches : Tree → (before : List Viewed) → List Found → List Breach
+abbrev pub all_found_breaches : Tree → (before : List Viewed) → List DeclaredView → List Breach
 all_found_breaches tree before fs = viewings_breaches (memories_of (program_seen tree)) before (viewings_found fs)
 
 -- Those that keep the rules, behind others that do.
@@ -115,8 +115,8 @@ abbrev pub kept_shape_at : Tree → (kept : List Viewed) → (entity : Option �
 kept_shape_at tree kept entity = kept_shape_in (memories_of (program_seen tree)) kept entity
 
 -- the others with a view, where it keeps the rules, and with those of these that do
-abbrev pub with_kept_view : Tree → (kept : List Viewed) → Found → List Viewed
+abbrev pub with_kept_view : Tree → (kept : List Viewed) → DeclaredView → List Viewed
 with_kept_view tree kept f = kept ++ kept_of (viewing_found f) (kept_shape_in (memories_of (program_seen tree)) kept f.parent.now.entity)
 
-abbrev pub with_all_kept : Tree → (kept : List Viewed) → List Found → List Viewed
+abbrev pub with_all_kept : Tree → (kept : List Viewed) → List DeclaredView → List Viewed
 with_all_kept tree kept fs = kept_behind (memories_of (program_seen tree)) kept (viewings_found fs)

@@ -16,7 +16,7 @@ use Rattle.dh_tree.specs.ViewBreaches.{kept_views, view_breaches_of}
 use Rattle.dh_tree.specs.ViewFactors.{factor_breaches_of}
 use Rattle.dh_tree.specs.Views.{Viewing, viewed_in, views_of}
 use Rattle.dh_tree.specs.ViewShapes.{IsViewMap}
-use Rattle.dh_viewing.specs.declared.collecting.Found.{Found}
+use Rattle.dh_viewing.specs.declared.collecting.DeclaredView.{DeclaredView}
 use Rattle.dh_viewing.specs.Finding.{all_found_breaches, with_all_found, with_all_kept}
 
 -- some view is among these
@@ -40,7 +40,7 @@ kept_or all (Some kept) = kept
 
 -- what is kept apart of the views that were found, or else all of them, are those that keep the rules; `is_unbroken` is to
 -- tell that none breaks the one on factors
-abbrev pub AreKeptApart : Tree → (is_unbroken : Bool) → List Found → (apart : Option (List Viewed)) → Type 0
+abbrev pub AreKeptApart : Tree → (is_unbroken : Bool) → List DeclaredView → (apart : Option (List Viewed)) → Type 0
 AreKeptApart tree is_unbroken found apart = (is_unbroken ≡ true → all_found_breaches tree [] found ≡ []) → kept_or (with_all_found tree [] found) apart ≡ with_all_kept tree [] found
 
 -- no shape breaks a rule

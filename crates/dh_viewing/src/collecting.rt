@@ -17,7 +17,7 @@ use std::alloc::Global;
 
 /// A view, where it is declared.
 #[derive(Clone, Copy)]
-pub(crate) struct Found<'a> {
+pub(crate) struct DeclaredView<'a> {
     pub(crate) name: &'a Ref,
     pub(crate) parent: &'a Ref,
     pub(crate) form: &'a ViewForm,
@@ -26,11 +26,15 @@ pub(crate) struct Found<'a> {
 /// Finds the views that a command declares, in the order of the tree.
 #[cycle(finding)]
 #[tactic(auto, using(dh_tree::proofs::SeenActions::actions_are, dh_tree::proofs::Collecting::found_none, dh_tree::proofs::Collecting::found_both))]
-fn find_views<'a>(found: &mut Vec<Found<'a>>, command: &'a Command) -> Result<(), NoMemory>
+fn find_views<'a>(found: &mut Vec<DeclaredView<'a>>, command: &'a Command) -> Result<(), NoMemory>
     ensures { FindsViews result found.old found.new (viewings (action_seen command.now)) }
 {
     match &command.form {
-        CommandForm::View { name, parent, form } => Ok(found.push(Found { name, parent, form })?),
+        CommandForm::View { name, parent, form } => Ok(found.push(DeclaredView {
+            name,
+            parent,
+            form,
+        })?),
         CommandForm::Block { body } => find_in_parts(found, body.as_slice()),
         CommandForm::If { then, other, .. } => {
             find_views(found, then)?;
@@ -53,7 +57,7 @@ fn find_views<'a>(found: &mut Vec<Found<'a>>, command: &'a Command) -> Result<()
 /// Finds those of a block that may lack.
 #[cycle(finding)]
 fn find_in_other<'a>(
-    found: &mut Vec<Found<'a>>,
+    found: &mut Vec<DeclaredView<'a>>,
     other: &'a Option<Box<Command>>,
 ) -> Result<(), NoMemory>
     ensures { FindsViews result found.old found.new (other_viewings (maybe_block_seen other.now)) }
@@ -66,7 +70,10 @@ fn find_in_other<'a>(
 
 /// Finds those of parts.
 #[cycle(finding)]
-fn find_in_parts<'a>(found: &mut Vec<Found<'a>>, parts: &'a [Vec<Command>]) -> Result<(), NoMemory>
+fn find_in_parts<'a>(
+    found: &mut Vec<DeclaredView<'a>>,
+    parts: &'a [Vec<Command>],
+) -> Result<(), NoMemory>
     ensures { FindsViews result found.old found.new (groups_viewings (all_parts_seen parts.now)) }
 {
     for part in parts {
@@ -240,7 +247,7 @@ fn map_behind(
     alloc: Global,
     typed: &Typed,
     views: &ViewTable,
-    found: &Found<'_>,
+    found: &DeclaredView<'_>,
 ) -> Result<Option<ViewMap>, NoMemory>
     ensures { IfOk result (λ m. m ≡ map_behind typed.now views.now found.now) }
 {
@@ -270,7 +277,7 @@ fn push_view(
     alloc: Global,
     typed: &Typed,
     views: &mut ViewTable,
-    found: &Found<'_>,
+    found: &DeclaredView<'_>,
 ) -> Result<(), NoMemory>
     ensures { OnOk result (views.new ≡ with_found_view typed.now views.old found.now) }
 {
@@ -283,7 +290,7 @@ fn push_views(
     alloc: Global,
     typed: &Typed,
     views: &mut ViewTable,
-    found: &[Found<'_>],
+    found: &[DeclaredView<'_>],
 ) -> Result<(), NoMemory>
     ensures { OnOk result (views.new ≡ with_all_found typed.now views.old found.now) }
 {
@@ -294,7 +301,10 @@ fn push_views(
 }
 
 /// The views that a program declares, in text order.
-pub(crate) fn found_in<'a>(alloc: Global, typed: &'a Typed) -> Result<Vec<Found<'a>>, NoMemory>
+pub(crate) fn found_in<'a>(
+    alloc: Global,
+    typed: &'a Typed,
+) -> Result<Vec<DeclaredView<'a>>, NoMemory>
     ensures { IfOk result (λ found. viewings_found found.items ≡ views_of (program_seen typed.now)) }
 {
     let mut found = Vec::new(alloc);

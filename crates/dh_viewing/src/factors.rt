@@ -11,7 +11,7 @@ ghost use Rattle.dh_tree.specs.ViewFactors.{factors_breaches, plan_breaches, vie
 ghost use Rattle.dh_tree.specs.Views.{shape_in};
 ghost use Rattle.dh_viewing.specs.Finding.{all_found_breaches, factor_broken_at, factors_paired, found_breaches, map_behind, multiples_breaches, place_or, viewed_as, viewing_found, with_all_found, with_found_view};
 
-use crate::collecting::{Found, shape_of_memory};
+use crate::collecting::{DeclaredView, shape_of_memory};
 use crate::sharing::{LastMaps, SharedMap};
 use crate::tables::{SharedView, SharedViews};
 use dh_base::{NoMemory, Place, Rule};
@@ -166,7 +166,7 @@ fn keep_view(kept: &mut Option<Breach>, dims: &[Dim], parent: Place, form: &View
 }
 
 /// Those of a view whose parent has this shape.
-pub(crate) fn keep_found(kept: &mut Option<Breach>, found: &Found<'_>, parent: &Shape)
+pub(crate) fn keep_found(kept: &mut Option<Breach>, found: &DeclaredView<'_>, parent: &Shape)
     ensures { kept.new
         ≡ least_of kept.old (viewing_breaches (viewing_found found.now) (Some parent.now)) }
 {
@@ -195,7 +195,7 @@ fn keep_map(
     maps: &mut LastMaps,
     kept: &mut Option<Breach>,
     views: &SharedViews,
-    found: &Found<'_>,
+    found: &DeclaredView<'_>,
 ) -> Result<Option<SharedMap>, NoMemory>
     ensures breaches { OnOk result
         (kept.new ≡ least_of kept.old (found_breaches typed.now views.now found.now)) }
@@ -232,7 +232,7 @@ fn keep_behind(
     maps: &mut LastMaps,
     kept: &mut Option<Breach>,
     views: &mut SharedViews,
-    found: &Found<'_>,
+    found: &DeclaredView<'_>,
 ) -> Result<(), NoMemory>
     ensures breaches { OnOk result
         (kept.new ≡ least_of kept.old (found_breaches typed.now views.old found.now)) }
@@ -248,7 +248,7 @@ pub(crate) fn keep_all(
     typed: &Typed,
     kept: &mut Option<Breach>,
     views: &mut SharedViews,
-    found: &[Found<'_>],
+    found: &[DeclaredView<'_>],
 ) -> Result<(), NoMemory>
     ensures breaches { OnOk result
         (kept.new ≡ least_of kept.old (all_found_breaches typed.now views.old found.now)) }

@@ -10,7 +10,7 @@ ghost use Rattle.dh_viewing.specs.Finding.{kept_shape_at, kept_through, shape_le
 ghost use Rattle.dh_viewing.specs.Judged as definitions;
 ghost use Rattle.dh_viewing.specs.Judged.{AreJudged, AreKeptApart, JudgesViews};
 
-use crate::collecting::{Found, found_in, map_to, push_map, shape_of_memory};
+use crate::collecting::{DeclaredView, found_in, map_to, push_map, shape_of_memory};
 use crate::declaring::declares_view;
 use crate::factors::{keep_all, keep_found};
 use crate::keeping::shape_keeps;
@@ -120,7 +120,7 @@ fn kept_shape_of<'a>(
 /// A view whose parent has this shape, where its factors and brackets keep the rule.
 fn kept_map(
     alloc: Global,
-    found: &Found<'_>,
+    found: &DeclaredView<'_>,
     parent: Option<&Shape>,
 ) -> Result<Option<ViewMap>, NoMemory>
     ensures { IfOk result (λ m. m
@@ -142,7 +142,7 @@ fn push_kept(
     alloc: Global,
     typed: &Typed,
     kept: &mut ViewTable,
-    found: &Found<'_>,
+    found: &DeclaredView<'_>,
 ) -> Result<(), NoMemory>
     ensures { OnOk result (kept.new ≡ with_kept_view typed.now kept.old found.now) }
 {
@@ -159,7 +159,7 @@ fn push_all_kept(
     alloc: Global,
     typed: &Typed,
     kept: &mut ViewTable,
-    found: &[Found<'_>],
+    found: &[DeclaredView<'_>],
 ) -> Result<(), NoMemory>
     ensures { OnOk result (kept.new ≡ with_all_kept typed.now kept.old found.now) }
 {
@@ -174,7 +174,7 @@ fn kept_apart(
     alloc: Global,
     typed: &Typed,
     is_unbroken: bool,
-    found: &[Found<'_>],
+    found: &[DeclaredView<'_>],
 ) -> Result<Option<ViewTable>, NoMemory>
     ensures { IfOk result (λ apart. AreKeptApart typed.now is_unbroken found.now apart) }
 {

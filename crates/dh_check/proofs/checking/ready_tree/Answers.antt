@@ -13,10 +13,10 @@ ready_named-requires-clause-of_text c = of_text_still (program_seen c.args.tree)
 pub ready_named-requires-clause-built : goal.ready_named-requires-clause-built
 ready_named-requires-clause-built c = built_still (program_seen c.args.tree) (program_seen c.in_ok-named.named) c.in_ok-named.ensures.0 c.in_ok-named.ensures.1.0
 
-pub returns : goal.returns
-returns c = tells_tree (program_seen c.args.tree) (program_seen c.in_ok-named.named) c.ready_named.result c.in_ok-named.ensures.0 c.in_ok-named.ensures.1.0 c.in_ok-named.ensures.1.1 c.ready_named.ensures
+pub returns-clause-tells : goal.returns-clause-tells
+returns-clause-tells c = tells_tree (program_seen c.args.tree) (program_seen c.in_ok-named.named) c.ready_named.result c.in_ok-named.ensures.0 c.in_ok-named.ensures.1.0 c.in_ok-named.ensures.1.1 c.ready_named.ensures.tells
 
-pub returns-in_err-named : goal.returns-in_err-named
-returns-in_err-named c =
+pub returns-in_err-named-clause-tells : goal.returns-in_err-named-clause-tells
+returns-in_err-named-clause-tells c =
     handed_on (TellsTree (program_seen c.args.tree)) c.from_residual.result (of_pass c.in_err-named.field-0.0) c.from_residual.ensures.1
     (names_stop (program_seen c.args.tree) c.in_err-named.field-0.0 c.in_err-named.ensures)

@@ -1,6 +1,6 @@
 use Rattle.std.proofs.Common.{ap, sym, subst, ◌∙◌, Err, add-one}
 use Rattle.std.proofs.lemmas.Result.{err_from_is_err_and}
-use Rattle.dh_code.specs.declared.codes.Operation.{Operation}
+use Rattle.dh_code.specs.declared.codes.CodeOperation.{CodeOperation}
 use Rattle.dh_code.specs.Operated.{IsOperation}
 use Rattle.dh_code.proofs.Entries.{at_index}
 use Rattle.dh_code.proofs.Operating.{operates_first, operates_turn, operates_stop, operates_seen, operates_spent}
@@ -11,7 +11,7 @@ loop-i-init c = operates_first c.args.scene.now c.args.slots.now c.args.ranks.no
 
 pub perform-requires-clause-operation : goal.perform-requires-clause-operation
 perform-requires-clause-operation c =
-    subst (λ (o : Operation). IsOperation c.args.scene.now.entries.now o) (sym c.index-operations-i.is)
+    subst (λ (o : CodeOperation). IsOperation c.args.scene.now.entries.now o) (sym c.index-operations-i.is)
     (at_index (IsOperation c.args.scene.now.entries.now) c.args.operations.now c.loop-i.i c.index-operations-i.result c.requires.operations c.loop-i-test.true)
 
 pub perform-requires-clause-long : goal.perform-requires-clause-long

@@ -7,7 +7,7 @@ use Rattle.dh_tree.specs.declared.trees.expressions.Expr.{Expr}
 use Rattle.dh_meaning.specs.Bindings.{kind_found, kind_or_first}
 use Rattle.dh_code.specs.Extended.{extension_of}
 use Rattle.dh_meaning.specs.Effects.{kind_in}
-use Rattle.dh_code.specs.declared.codes.Operation.TheVariants.{Read}
+use Rattle.dh_code.specs.declared.codes.CodeOperation.TheVariants.{Read}
 use Rattle.dh_code.specs.declared.codes.Target.{Target}
 use Rattle.dh_code.specs.Flattening.{IsOneMore, known_by_names, table_in}
 use Rattle.dh_code.proofs.FlattenedForms.{access_flat, bank_flat, bank_form, binary_form, cast_flat, cast_form, number_flat, operation_flat, truth_flat, variable_flat}

@@ -7,7 +7,7 @@ use Rattle.dh_meaning.specs.Core.{CoreCommand, command_and}
 use Rattle.dh_meaning.specs.CoreOf.{core_term}
 use Rattle.dh_code.specs.declared.codes.Access.{Access}
 use Rattle.dh_code.specs.declared.codes.Action.TheVariants.{Store}
-use Rattle.dh_code.specs.declared.codes.Flat.{Flat}
+use Rattle.dh_code.specs.declared.codes.FlatExpression.{FlatExpression}
 use Rattle.dh_code.specs.Flattening.{AddsStep, IsAimed, IsInFront, aimed_at, known_by_names, table_in}
 use Rattle.dh_code.specs.Suited.{CanDoAll}
 use Rattle.dh_code.proofs.CommandsFlattened.{aimed_nowhere, aimed_somewhere, nothing_front, store_by, store_front}
@@ -33,7 +33,7 @@ returns-in-Some c =
     (store_front names p loops c.args.code.now c.flatten.new.code c.element.new.code c.add_step.new.code t c.in_ok-value.value c.args.next first rest (c.in_ok-value.ensures n) (aimed_at (known_by_names names) m target) c.in-Some.access
     (subst (λ (x : CoreCommand). CanDoAll (table_in names) p loops (command_and x rest)) by can)
     (subst (λ (a : Option Access). IsAimed names c.flatten.new.code c.element.new.code (aimed_at (known_by_names names) m target) a) c.in-Some.is (c.in_ok-access.ensures m))
-    (subst (λ (f : Flat). AddsStep c.element.new.code c.add_step.new.code (Store f c.in-Some.access) c.args.next first)
+    (subst (λ (f : FlatExpression). AddsStep c.element.new.code c.add_step.new.code (Store f c.in-Some.access) c.args.next first)
     (ap (λ k. record { from = k; to = c.len-to.result; value = c.in_ok-value.value }) c.len-from.ensures ∙ ap (λ k. record { from = length c.args.code.now.operations; to = k; value = c.in_ok-value.value }) c.len-to.ensures) step)))
     c.add_step.ensures
 

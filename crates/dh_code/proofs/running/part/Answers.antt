@@ -3,7 +3,7 @@ use Rattle.std.specs.Prelude.{slice_index, Result, Vec, IfOk}
 use Rattle.std.specs.Global.{Global}
 use Rattle.std.proofs.lemmas.Result.{err_from_is_err_and}
 use Rattle.dh_meaning.specs.Effects.{holds_at}
-use Rattle.dh_code.specs.declared.evaluating.Stop.{Stop}
+use Rattle.dh_code.specs.declared.evaluating.StepStop.{StepStop}
 use Rattle.dh_code.specs.Rows.{contents_of}
 use Rattle.dh_code.specs.Scenes.{begun_in}
 use Rattle.dh_code.specs.States.{AreParts}
@@ -25,7 +25,7 @@ returns-in_err-holds-clause-parts c = λ p factors paths t are flat can.
     let u = err_from_is_err_and c.from_residual.result c.from_residual.ensures.1 in (
       parts_stop c.args.scene.now c.args.state.now (contents_of c.args.rows.now) c.args.paths.now c.args.test.now c.loop-path.path-index c.loop-path.state c.loop-path.chosen.items c.loop-path.other.items (slice_index c.args.paths.now c.loop-path.path-index) c.ranks_at.result.now c.loop-path-test.true (get_whatever c.args.paths.now c.loop-path.path-index 0 (slice_index c.args.paths.now c.loop-path.path-index) c.loop-path-test.true) c.ranks_at.ensures c.loop-path.invariant
           Bool (Vec ℕ Global × Vec ℕ Global) c.in_err-holds.field-0.0 c.decide.new.state c.decide.new.state c.from_residual.result (u.1 ∙ ap (λ x. Err x) u.2) (λ p factors path t at flat can. (c.in_err-holds.ensures.decides p factors path t at flat can).0) p factors paths t are flat can,
-      λ e k. subst (λ (r : Result (Vec ℕ Global × Vec ℕ Global) Stop). IfOk r (λ parts. AreParts (contents_of c.args.rows.now) factors paths (holds_at (begun_in c.args.scene.now) e.variables t) (parts.0.items, parts.1.items))) (sym u.1) tt,
+      λ e k. subst (λ (r : Result (Vec ℕ Global × Vec ℕ Global) StepStop). IfOk r (λ parts. AreParts (contents_of c.args.rows.now) factors paths (holds_at (begun_in c.args.scene.now) e.variables t) (parts.0.items, parts.1.items))) (sym u.1) tt,
     )
 
 pub loop-path-preserved : goal.loop-path-preserved

@@ -6,7 +6,7 @@ use Rattle.dh_meaning.specs.CoreOf.{entity_number}
 use Rattle.dh_code.specs.Extended.{extension_of}
 use Rattle.dh_commands.proofs.ReducersMade.{reduced_made}
 use Rattle.dh_value.specs.declared.kinds.Kind.{Kind}
-use Rattle.dh_code.specs.declared.places.Held.{Held}
+use Rattle.dh_code.specs.declared.places.VariableSlots.{VariableSlots}
 use Rattle.dh_tree.specs.Kinds.{same_kind}
 use Rattle.dh_code.specs.Slots.{held_at}
 use Rattle.dh_expressions.specs.MadeValues.{MadeConverted, MadeShown}
@@ -28,7 +28,7 @@ returns-clause-made c =
     let kept : c.place_of-held.result ≡ held_at c.args.scene.now.held.now (entity_number c.args.target.now.entity) = c.place_of-held.ensures in
     let to : c.extension-to.result ≡ extension_of c.args.op c.place_of-held.result.kind (kind_written (term_seen c.args.value.now)) =
     c.extension-to.ensures ∙ ap (λ k. extension_of c.args.op c.place_of-held.result.kind k) c.kind_found.ensures in
-    IfOk-weaker c.push_own.result _ _ (λ made h. subst (λ (q : Held). FoldedWith c.args.lane.now c.args.current.now q c.args.op (term_seen c.args.value.now) c.args.own c.args.draft.now c.push_own.new.draft made) kept (record {
+    IfOk-weaker c.push_own.result _ _ (λ made h. subst (λ (q : VariableSlots). FoldedWith c.args.lane.now c.args.current.now q c.args.op (term_seen c.args.value.now) c.args.own c.args.draft.now c.push_own.new.draft made) kept (record {
       first = c.push_shown.new.draft;
       second = c.push_old_operand.new.draft;
       third = c.push_operand.new.draft;

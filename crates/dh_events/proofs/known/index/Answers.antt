@@ -2,7 +2,7 @@ use Rattle.std.proofs.Common.{ℕ, sym, subst, max}
 use Rattle.std.specs.Prelude.{Option}
 use Rattle.std.proofs.lemmas.Result.{IfOk-weaker}
 use Rattle.dh_events.specs.declared.structures.Form.{Form}
-use Rattle.dh_events.specs.declared.structures.Sort.TheVariants as sort
+use Rattle.dh_events.specs.declared.structures.MaybeKind.TheVariants as sort
 use Rattle.dh_events.specs.Elements.{MakesFrom}
 use Rattle.dh_events.specs.declared.known.Known.{Known}
 use Rattle.dh_events.specs.Elements.{MakesIndex}

@@ -3,8 +3,8 @@ use Rattle.std.specs.Prelude.{Vec}
 use Rattle.std.specs.Global.{Global}
 use Rattle.std.specs.List.{AllByRecursion}
 use Rattle.dh_events.specs.Tables.{table_at}
-use Rattle.dh_ports.specs.declared.copies.Lane.{Lane}
-use Rattle.dh_ports.specs.declared.copies.Level.{Level}
+use Rattle.dh_ports.specs.declared.copies.BankDimension.{BankDimension}
+use Rattle.dh_ports.specs.declared.copies.CopyLevel.{CopyLevel}
 use Rattle.dh_ports.specs.declared.counting.Seen.{Seen}
 use Rattle.dh_ports.specs.Copies.{bank_at_path_number, bank_of_lanes, key_by, key_of_levels, HasFewBanks, HasFewKeys, IsSpreadLevel, TellsPaths}
 use Rattle.dh_ports.proofs.RangeCounts.{alone_of, range_beyond, range_done, range_few, range_none, range_past, range_turn, RangeCounted}
@@ -24,13 +24,13 @@ pub bank_at-told-requires-clause-spread : goal.bank_at-told-requires-clause-spre
 bank_at-told-requires-clause-spread c =
     let some : 1 ≤ c.args.many = omega (arith, c.loop-step-test.true) in
     let tells : TellsPaths c.args.reach.now = c.requires.tells some in
-    subst (λ (ls : List Level). AllByRecursion IsSpreadLevel ls) (sym c.as_slice-levels.ensures.value) tells.spread
+    subst (λ (ls : List CopyLevel). AllByRecursion IsSpreadLevel ls) (sym c.as_slice-levels.ensures.value) tells.spread
 
 pub bank_at-told-requires-clause-few : goal.bank_at-told-requires-clause-few
 bank_at-told-requires-clause-few c =
     let some : 1 ≤ c.args.many = omega (arith, c.loop-step-test.true) in
     let tells : TellsPaths c.args.reach.now = c.requires.tells some in
-    subst (λ (ls : List Lane). HasFewBanks ls) (sym c.as_slice-lanes.ensures.value) tells.lanes
+    subst (λ (ls : List BankDimension). HasFewBanks ls) (sym c.as_slice-lanes.ensures.value) tells.lanes
 
 pub bank_of-bank-requires : goal.bank_of-bank-requires
 bank_of-bank-requires c =
@@ -46,13 +46,13 @@ pub key_at-key-requires-clause-spread : goal.key_at-key-requires-clause-spread
 key_at-key-requires-clause-spread c =
     let some : 1 ≤ c.args.many = omega (arith, c.loop-step-test.true) in
     let tells : TellsPaths c.args.reach.now = c.requires.tells some in
-    subst (λ (ls : List Level). AllByRecursion IsSpreadLevel ls) (sym c.as_slice-levels.ensures.value) tells.spread
+    subst (λ (ls : List CopyLevel). AllByRecursion IsSpreadLevel ls) (sym c.as_slice-levels.ensures.value) tells.spread
 
 pub key_at-key-requires-clause-few : goal.key_at-key-requires-clause-few
 key_at-key-requires-clause-few c =
     let some : 1 ≤ c.args.many = omega (arith, c.loop-step-test.true) in
     let tells : TellsPaths c.args.reach.now = c.requires.tells some in
-    subst (λ (ls : List Level). HasFewKeys ls) (sym c.as_slice-levels.ensures.value) tells.keys
+    subst (λ (ls : List CopyLevel). HasFewKeys ls) (sym c.as_slice-levels.ensures.value) tells.keys
 
 pub pair_of-pair-requires : goal.pair_of-pair-requires
 pair_of-pair-requires c =

@@ -4,8 +4,8 @@ use Rattle.dh_rules.proofs.placements.shapes_and_places.Goals as goal
 
 pub returns-in-Some-clause-breach : goal.returns-in-Some-clause-breach
 returns-in-Some-clause-breach c =
-    first_shape (program_seen c.args.typed.now) c.first_breaches-firsts.result.shapes c.keep_views.new.kept c.in-Some.breach c.first_breaches-firsts.ensures.shapes c.in-Ok.ensures c.in-Some.is
+    first_shape (program_seen c.args.typed.now) c.in-Ok.firsts.shapes c.keep_views.new.kept c.in-Some.breach c.in-Ok.ensures.shapes c.in-Ok-keep_views.ensures c.in-Some.is
 
-pub returns-in-None-clause-breach : goal.returns-in-None-clause-breach
-returns-in-None-clause-breach c =
-    no_shape (program_seen c.args.typed.now) c.first_breaches-firsts.result.shapes c.keep_views.new.kept c.first_breaches-firsts.ensures.shapes c.in-Ok.ensures c.in-None.is
+pub returns-in-Some-stages-clause-breach : goal.returns-in-Some-stages-clause-breach
+returns-in-Some-stages-clause-breach c =
+    no_shape (program_seen c.args.typed.now) c.in-Ok.firsts.shapes c.keep_views.new.kept c.in-Ok.ensures.shapes c.in-Ok-keep_views.ensures c.in-None.is

@@ -1,6 +1,6 @@
 use Rattle.std.proofs.Common.{false, Ok, Err, ap, ◌∙◌, subst}
 use Rattle.std.proofs.lemmas.Result.{err_from_is_err_and}
-use Rattle.dh_sem.specs.declared.phases.Form.{Form}
+use Rattle.dh_sem.specs.declared.phases.PhaseForm.{PhaseForm}
 use Rattle.dh_sem.specs.Phased.{TestIsHeld}
 use Rattle.dh_sem.proofs.BlocksDone.{choice_runs, loop_runs, runs_on, runs_stop, straight_runs, turns_run}
 use Rattle.dh_sem.proofs.stepping.run_block.Goals as goal
@@ -9,10 +9,10 @@ pub lanes_at-lanes-requires : goal.lanes_at-lanes-requires
 lanes_at-lanes-requires c = record { there = (c.requires.course.links.each c.args.at c.phase_at-phase.result.now c.phase_at-phase.ensures).paths }
 
 pub test-requires-clause-held : goal.test-requires-clause-held
-test-requires-clause-held c = subst (λ (f : Form). TestIsHeld c.args.scene.now.code.now.operations f) c.in-Loop.is (c.requires.course.tests c.args.at c.phase_at-phase.result.now c.phase_at-phase.ensures)
+test-requires-clause-held c = subst (λ (f : PhaseForm). TestIsHeld c.args.scene.now.code.now.operations f) c.in-Loop.is (c.requires.course.tests c.args.at c.phase_at-phase.result.now c.phase_at-phase.ensures)
 
 pub test-requires-in-Choice-clause-held : goal.test-requires-in-Choice-clause-held
-test-requires-in-Choice-clause-held c = subst (λ (f : Form). TestIsHeld c.args.scene.now.code.now.operations f) c.in-Choice.is (c.requires.course.tests c.args.at c.phase_at-phase.result.now c.phase_at-phase.ensures)
+test-requires-in-Choice-clause-held c = subst (λ (f : PhaseForm). TestIsHeld c.args.scene.now.code.now.operations f) c.in-Choice.is (c.requires.course.tests c.args.at c.phase_at-phase.result.now c.phase_at-phase.ensures)
 
 pub returns-in_err-run-in-Straight-clause-runs : goal.returns-in_err-run-in-Straight-clause-runs
 returns-in_err-run-in-Straight-clause-runs c =

@@ -1,5 +1,5 @@
 use Rattle.std.proofs.Common.{List, ap, length, sym, subst, ◌∙◌, ◌++◌, slice_index}
-use Rattle.dh_ports.specs.declared.marks.Mark.{Mark}
+use Rattle.dh_ports.specs.declared.marks.SlotMark.{SlotMark}
 use Rattle.dh_ports.specs.Logs.{least, marks_now, at_begin, AreSlotMarks}
 use Rattle.dh_ports.proofs.LevelFacts.{kept_back_level, kept_back_kept}
 use Rattle.dh_ports.proofs.levels.Levels.give_back.Goals as goal
@@ -7,7 +7,7 @@ use Rattle.dh_ports.proofs.levels.Levels.give_back.Goals as goal
 pub returns-clause-kept : goal.returns-clause-kept
 returns-clause-kept c =
     let k = kept_back_kept (length c.args.self.now.left.items) (length c.undo.new.left.items) c.args.self.now.log.items c.clear.new.self.items c.args.self.now.lows.items c.note_lows.new.lows.items c.args.self.now.outer.items c.undo.ensures.long c.clear.ensures.items
-    (λ log lows. c.in_ok-note_lows.ensures.marks (length c.args.self.now.left.items) (subst (λ (l : List Mark). AreSlotMarks (length c.args.self.now.left.items) l) (sym c.as_slice-2.ensures.value) log) lows) c.requires.kept.log c.requires.kept.lows c.requires.kept.outer in
+    (λ log lows. c.in_ok-note_lows.ensures.marks (length c.args.self.now.left.items) (subst (λ (l : List SlotMark). AreSlotMarks (length c.args.self.now.left.items) l) (sym c.as_slice-2.ensures.value) log) lows) c.requires.kept.log c.requires.kept.lows c.requires.kept.outer in
     record { log = k.0; lows = k.1.0; outer = k.1.1 }
 
 pub returns-clause-back : goal.returns-clause-back
