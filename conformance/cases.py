@@ -90,7 +90,11 @@ def built_program():
 
 
 def program_and_names(arguments):
-    """What a runner's arguments name: a program, where the first holds a `/`, and cases."""
+    """What a runner's arguments name: a program, where the first holds a `/`, and cases. Where `--help` or `-h` is among
+    them, what the runner's file says of it is printed, and nothing is built or run."""
+    if '--help' in arguments or '-h' in arguments:
+        print(sys.modules['__main__'].__doc__)
+        raise SystemExit(0)
     if arguments and '/' in arguments[0]:
         return os.path.abspath(arguments[0]), arguments[1:]
     return built_program(), arguments
